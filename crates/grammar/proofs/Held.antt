@@ -1,0 +1,461 @@
+-- The parts that have begun, `held`, are those of every text that goes on from here.
+use Prim.Native.Nat.{ℕ, zero, suc, _+_, _-_, _≤_, _<_, zero-le, suc-le-suc}
+use native.Mathlib.Omega.{arith}
+use borrow.Author.Tests.{ltb-true, ltb-false, lt-ltb, le-ltb}
+use mathlib.Core.Path.{_≡_, refl, sym, ap, _∙_}
+use mathlib.Core.Logic.{_⊎_, inl, inr, _↔_, ⊎-elim}
+use mathlib.Core.Bool.{Bool, true, false, cond, _&&_, _||_}
+use mathlib.Core.List.{List, [], _∷_, _++_, append-assoc, append-nil, cons≢nil, nil≢cons}
+use lib.Dec.{T, ltb}
+use lib.ListN.{length, take, length-append}
+use lib.Seq.{take-at, take-length}
+use Rattle.grammar.specs.Grammar.{Class, Part, Grammar, void, empty, byte, _⨾_, _∣_, star, part, rest, nest, Nest, out, item, opens, closes, Parses, Many, none, more, past, grown, bytes?, T-left, T-right}
+use Rattle.grammar.specs.Derivative.{then, seq, alt, or-else, during, inside, closed, deriv, ends, after}
+use Rattle.grammar.specs.Reading.{cut}
+use Rattle.grammar.specs.Judge.{held}
+use Rattle.grammar.specs.Checks.{fresh?, still?, clear?}
+use Rattle.grammar.proofs.Derivative.{T-both, seq-nil, split-nil}
+use Rattle.grammar.proofs.Longest.{past-length, past-snoc}
+use Rattle.grammar.proofs.Shapes.{seq-void}
+
+past-le : (i : ℕ) (t : List ℕ) → i ≤ past i t
+past-le i t = omega (arith, past-length i t)
+
+module _ {L : Type 0} where
+  kept : (x : Bool) (c : Part L) (l m q : List (Part L)) → l ≡ m ++ q → cond x (c ∷ l) l ≡ cond x (c ∷ m) m ++ q
+  kept true c l m q e = ap (λ (k : List (Part L)). c ∷ k) e
+  kept false c l m q e = e
+
+  pub cut-append : (n : ℕ) (ps qs : List (Part L)) → cut n (ps ++ qs) ≡ cut n ps ++ cut n qs
+  cut-append n [] qs = refl
+  cut-append n (c ∷ ps) qs =
+      kept (ltb (c .start) n) (record { label = c .label; start = c .start; text = take (n - c .start) (c .text) }) (cut n (ps ++ qs)) (cut n ps) (cut n qs)
+      (cut-append n ps qs)
+
+  -- a text of a fresh grammar has no part that begins before it
+  fresh-many : (i j : ℕ) (P : ℕ → List ℕ → List (Part L) → Type 0) → ((k : ℕ) (t : List ℕ) (ps : List (Part L)) → i ≤ k → P k t ps → cut i ps ≡ [])
+      → i ≤ j → (l : List ℕ) (ps : List (Part L)) → Many P j l ps → cut i ps ≡ []
+  fresh-many i j P f h l ps none = refl
+  fresh-many i j P f h l ps (more b t u qs rs m n) =
+      cut-append i qs rs
+      ∙ ap (λ (k : List (Part L)). k ++ cut i rs) (f j (b ∷ t) qs h m)
+      ∙ fresh-many i (past (suc j) t) P f (omega (arith, past-le (suc j) t)) u rs n
+
+  fresh-nest : (o c : Class) (l m : L) (i : ℕ) (P : ℕ → List ℕ → List (Part L) → Type 0) → ((k : ℕ) (t : List ℕ) (ps : List (Part L)) → i ≤ k → P k t ps → cut i ps ≡ [])
+      → (n j : ℕ) → i ≤ j → (s : List ℕ) (ps : List (Part L)) → Nest o c l m P n j s ps → cut i ps ≡ []
+  fresh-nest o c l m i P f n j h s ps out = refl
+  fresh-nest o c l m i P f n j h s ps (item {n = w} b t u qs rs p k) =
+      cut-append i qs rs
+      ∙ ap (λ (x : List (Part L)). x ++ cut i rs) (f j (b ∷ t) qs h p)
+      ∙ fresh-nest o c l m i P f (suc w) (past (suc j) t) (omega (arith, past-le (suc j) t)) u rs k
+  fresh-nest o c l m i P f n j h s ps (opens {n = w} b u qs p k) = rw (le-ltb j i h) (fresh-nest o c l m i P f (suc (suc w)) (suc j) (omega arith) u qs k)
+  fresh-nest o c l m i P f n j h s ps (closes {n = w} b u qs p k) = rw (le-ltb j i h) (fresh-nest o c l m i P f w (suc j) (omega arith) u qs k)
+
+  pub fresh-cut : (g : Grammar L) (i j : ℕ) (t : List ℕ) (ps : List (Part L)) → T (fresh? g) → i ≤ j → Parses g j t ps → cut i ps ≡ []
+  fresh-cut void i j t ps f h m = absurd m
+  fresh-cut empty i j t ps f h m = ap (cut i) (m .1)
+  fresh-cut (byte c) i j t ps f h m = ap (cut i) (m .3)
+  fresh-cut (g ⨾ k) i j t ps f h m =
+      ap (cut i) (m .5) ∙ cut-append i (m .2) (m .3)
+      ∙ ap (λ (l : List (Part L)). l ++ cut i (m .3)) (fresh-cut g i j (m .0) (m .2) (T-left (fresh? g) (fresh? k) f) h (m .6))
+      ∙ fresh-cut k i (past j (m .0)) (m .1) (m .3) (T-right (fresh? g) (fresh? k) f) (omega (arith, past-le j (m .0))) (m .7)
+  fresh-cut (g ∣ k) i j t ps f h (inl m) = fresh-cut g i j t ps (T-left (fresh? g) (fresh? k) f) h m
+  fresh-cut (g ∣ k) i j t ps f h (inr m) = fresh-cut k i j t ps (T-right (fresh? g) (fresh? k) f) h m
+  fresh-cut (star g) i j t ps f h m = fresh-many i j (Parses g) (λ k u qs l n. fresh-cut g i k u qs f l n) h t ps m
+  fresh-cut (part l g) i j t ps f h m = rw (m .1, le-ltb j i h) (fresh-cut g i j t (m .0) f h (m .2))
+  fresh-cut (rest c g) i j t ps f h m = absurd f
+  fresh-cut (nest o c l m g r n) i j t ps f h k =
+      ap (cut i) (k .5) ∙ cut-append i (k .2) (k .3)
+      ∙ ap (λ (x : List (Part L)). x ++ cut i (k .3)) (fresh-cut r i j (k .0) (k .2) (T-right (fresh? g) (fresh? r) f) h (k .6))
+      ∙ fresh-nest o c l m i (Parses g) (λ w u qs y z. fresh-cut g i w u qs (T-left (fresh? g) (fresh? r) f) y z) (suc n) (past j (k .0)) (omega (arith, past-le j (k .0))) (k .1) (k .3) (k .7)
+
+  fresh-held : (g : Grammar L) → T (fresh? g) → held g ≡ []
+  fresh-held void f = refl
+  fresh-held empty f = refl
+  fresh-held (byte c) f = refl
+  fresh-held (g ⨾ h) f = rw (fresh-held g (T-left (fresh? g) (fresh? h) f), fresh-held h (T-right (fresh? g) (fresh? h) f))
+  fresh-held (g ∣ h) f = fresh-held g (T-left (fresh? g) (fresh? h) f)
+  fresh-held (star g) f = refl
+  fresh-held (part l g) f = refl
+  fresh-held (rest c g) f = absurd f
+  fresh-held (nest o c l m g r n) f = fresh-held r (T-right (fresh? g) (fresh? r) f)
+
+  -- a still grammar has the empty text alone
+  still-nil : (g : Grammar L) (i : ℕ) (t : List ℕ) (ps : List (Part L)) → T (still? g) → Parses g i t ps → t ≡ []
+  still-nil void i t ps f m = absurd m
+  still-nil empty i t ps f m = m .0
+  still-nil (byte c) i t ps f m = absurd f
+  still-nil (g ⨾ h) i t ps f m =
+      rw (m .4, still-nil g i (m .0) (m .2) (T-left (still? g) (still? h) f) (m .6), still-nil h (past i (m .0)) (m .1) (m .3) (T-right (still? g) (still? h) f) (m .7))
+  still-nil (g ∣ h) i t ps f (inl m) = still-nil g i t ps (T-left (still? g) (still? h) f) m
+  still-nil (g ∣ h) i t ps f (inr m) = still-nil h i t ps (T-right (still? g) (still? h) f) m
+  still-nil (star g) i t ps f m = absurd f
+  still-nil (part l g) i t ps f m = absurd f
+  still-nil (rest c g) i t ps f m = still-nil g i t (m .0) f (m .2)
+  still-nil (nest o c l m g r n) i t ps f k = absurd f
+
+  still-deriv : (g : Grammar L) (i b : ℕ) → T (still? g) → deriv g i b ≡ void
+  still-deriv void i b f = refl
+  still-deriv empty i b f = refl
+  still-deriv (byte c) i b f = absurd f
+  still-deriv (g ⨾ h) i b f =
+      rw (still-deriv g i b (T-left (still? g) (still? h) f), still-deriv h i b (T-right (still? g) (still? h) f)) (seq-void (ends g i))
+  still-deriv (g ∣ h) i b f = rw (still-deriv g i b (T-left (still? g) (still? h) f), still-deriv h i b (T-right (still? g) (still? h) f))
+  still-deriv (star g) i b f = absurd f
+  still-deriv (part l g) i b f = absurd f
+  still-deriv (rest c g) i b f = rw (still-deriv g i b f)
+  still-deriv (nest o c l m g r n) i b f = absurd f
+
+  -- the parts that have begun stand before the place i, and the bytes that follow go on with the last of them or with none
+  abbrev pub Begun : ℕ → Grammar L → Type 0
+  Begun i void = Unit {0}
+  Begun i empty = Unit {0}
+  Begun i (byte c) = Unit {0}
+  Begun i (g ⨾ h) = (Begun i g × T (fresh? h)) ⊎ (T (still? g) × Begun i g × Begun i h)
+  Begun i (g ∣ h) = Begun i g × Begun i h
+  Begun i (star g) = T (fresh? g)
+  Begun i (part l g) = T (fresh? g)
+  Begun i (rest c g) =
+      Begun i g × (c .start < i) × ((past (c .start) (c .text) ≡ i) ⊎ (T (still? g) × (past (c .start) (c .text) ≤ i)))
+  Begun i (nest o c l m g r n) = T (fresh? g) × Begun i r
+
+  pub fresh-begun : (g : Grammar L) (i : ℕ) → T (fresh? g) → Begun i g
+  fresh-begun void i f = tt
+  fresh-begun empty i f = tt
+  fresh-begun (byte c) i f = tt
+  fresh-begun (g ⨾ h) i f = inl (fresh-begun g i (T-left (fresh? g) (fresh? h) f), T-right (fresh? g) (fresh? h) f)
+  fresh-begun (g ∣ h) i f = (fresh-begun g i (T-left (fresh? g) (fresh? h) f), fresh-begun h i (T-right (fresh? g) (fresh? h) f))
+  fresh-begun (star g) i f = f
+  fresh-begun (part l g) i f = f
+  fresh-begun (rest c g) i f = absurd f
+  fresh-begun (nest o c l m g r n) i f = (T-left (fresh? g) (fresh? r) f, fresh-begun r i (T-right (fresh? g) (fresh? r) f))
+
+  fresh-then : (g h : Grammar L) → T (fresh? g) → T (fresh? h) → T (fresh? (then g h))
+  fresh-then g void v w = tt
+  fresh-then g empty v w = v
+  fresh-then g (byte c) v w = T-both (fresh? g) true v w
+  fresh-then g (h ⨾ k) v w = T-both (fresh? g) (fresh? (h ⨾ k)) v w
+  fresh-then g (h ∣ k) v w = T-both (fresh? g) (fresh? (h ∣ k)) v w
+  fresh-then g (star h) v w = T-both (fresh? g) (fresh? h) v w
+  fresh-then g (part l h) v w = T-both (fresh? g) (fresh? h) v w
+  fresh-then g (rest c h) v w = absurd w
+  fresh-then g (nest o c l m h r n) v w = T-both (fresh? g) (fresh? (nest o c l m h r n)) v w
+
+  fresh-seq : (g h : Grammar L) → T (fresh? g) → T (fresh? h) → T (fresh? (seq g h))
+  fresh-seq void h v w = tt
+  fresh-seq empty h v w = w
+  fresh-seq (byte c) h v w = fresh-then (byte c) h v w
+  fresh-seq (f ⨾ g) h v w = fresh-seq f (seq g h) (T-left (fresh? f) (fresh? g) v) (fresh-seq g h (T-right (fresh? f) (fresh? g) v) w)
+  fresh-seq (f ∣ g) h v w = fresh-then (f ∣ g) h v w
+  fresh-seq (star g) h v w = fresh-then (star g) h v w
+  fresh-seq (part l g) h v w = fresh-then (part l g) h v w
+  fresh-seq (rest c g) h v w = absurd v
+  fresh-seq (nest o c l m g r n) h v w = fresh-then (nest o c l m g r n) h v w
+
+  module _ (i : ℕ) where
+    begun-then : (g h : Grammar L) → Begun i (g ⨾ h) → Begun i (then g h)
+    begun-then g void w = tt
+    begun-then g empty (inl w) = w .0
+    begun-then g empty (inr w) = w .1
+    begun-then g (byte c) w = w
+    begun-then g (h ⨾ k) w = w
+    begun-then g (h ∣ k) w = w
+    begun-then g (star h) w = w
+    begun-then g (part l h) w = w
+    begun-then g (rest c h) w = w
+    begun-then g (nest o c l m h r n) w = w
+
+    halves : (f g : Grammar L) → Begun i (f ⨾ g) → Begun i f × Begun i g
+    halves f g (inl w) = (w .0, fresh-begun g i (w .1))
+    halves f g (inr w) = (w .1, w .2)
+
+    half : (f g h : Grammar L) → (Begun i (f ⨾ seq g h) → Begun i (seq f (seq g h))) → (Begun i (g ⨾ h) → Begun i (seq g h))
+        → Begun i (f ⨾ g) → T (fresh? h) → Begun i (seq f (seq g h))
+    half f g h x y (inl v) w = x (inl (v .0, fresh-seq g h (v .1) w))
+    half f g h x y (inr v) w = x (inr (v .0, v .1, y (inl (v .2, w))))
+
+    begun-seq : (g h : Grammar L) → Begun i (g ⨾ h) → Begun i (seq g h)
+    begun-seq void h w = tt
+    begun-seq empty h (inl w) = fresh-begun h i (w .1)
+    begun-seq empty h (inr w) = w .2
+    begun-seq (byte c) h w = begun-then (byte c) h w
+    begun-seq (f ⨾ g) h (inl w) = half f g h (begun-seq f (seq g h)) (begun-seq g h) (w .0) (w .1)
+    begun-seq (f ⨾ g) h (inr w) =
+        let x = halves f g (w .1) in
+        begun-seq f (seq g h)
+        (inr (T-left (still? f) (still? g) (w .0), x .0, begun-seq g h (inr (T-right (still? f) (still? g) (w .0), x .1, w .2))))
+    begun-seq (f ∣ g) h w = begun-then (f ∣ g) h w
+    begun-seq (star g) h w = begun-then (star g) h w
+    begun-seq (part l g) h w = begun-then (part l g) h w
+    begun-seq (rest c g) h w = begun-then (rest c g) h w
+    begun-seq (nest o c l m g r n) h w = begun-then (nest o c l m g r n) h w
+
+    begun-or : (g h : Grammar L) → Begun i g → Begun i h → Begun i (or-else g h)
+    begun-or g void v w = v
+    begun-or g empty v w = (v, w)
+    begun-or g (byte c) v w = (v, w)
+    begun-or g (h ⨾ k) v w = (v, w)
+    begun-or g (h ∣ k) v w = (v, w)
+    begun-or g (star h) v w = (v, w)
+    begun-or g (part l h) v w = (v, w)
+    begun-or g (rest c h) v w = (v, w)
+    begun-or g (nest o c l m h r n) v w = (v, w)
+
+    begun-alt : (g h : Grammar L) → Begun i g → Begun i h → Begun i (alt g h)
+    begun-alt void h v w = w
+    begun-alt empty h v w = begun-or empty h v w
+    begun-alt (byte c) h v w = begun-or (byte c) h v w
+    begun-alt (f ⨾ g) h v w = begun-or (f ⨾ g) h v w
+    begun-alt (f ∣ g) h v w = begun-or (f ∣ g) h v w
+    begun-alt (star g) h v w = begun-or (star g) h v w
+    begun-alt (part l g) h v w = begun-or (part l g) h v w
+    begun-alt (rest c g) h v w = begun-or (rest c g) h v w
+    begun-alt (nest o c l m g r n) h v w = begun-or (nest o c l m g r n) h v w
+
+    begun-during : (c : Part L) (g : Grammar L) → Begun i (rest c g) → Begun i (during c g)
+    begun-during c void w = tt
+    begun-during c empty w = w
+    begun-during c (byte d) w = w
+    begun-during c (f ⨾ g) w = w
+    begun-during c (f ∣ g) w = w
+    begun-during c (star g) w = w
+    begun-during c (part l g) w = w
+    begun-during c (rest d g) w = w
+    begun-during c (nest o d l m g r n) w = w
+
+    module _ (o c : Class) (l m : L) (g : Grammar L) (n : ℕ) where
+      begun-inside : (r : Grammar L) → Begun i (nest o c l m g r n) → Begun i (inside o c l m g n r)
+      begun-inside void w = tt
+      begun-inside empty w = w
+      begun-inside (byte d) w = w
+      begun-inside (f ⨾ h) w = w
+      begun-inside (f ∣ h) w = w
+      begun-inside (star h) w = w
+      begun-inside (part k h) w = w
+      begun-inside (rest d h) w = w
+      begun-inside (nest p d j k h r x) w = w
+
+    begun-closed : (o c : Class) (l m : L) (g : Grammar L) (n : ℕ) → T (fresh? g) → Begun i (closed o c l m g n)
+    begun-closed o c l m g zero f = tt
+    begun-closed o c l m g (suc n) f = (f, tt)
+
+  still-then : (g h : Grammar L) → T (still? g) → T (still? h) → T (still? (then g h))
+  still-then g void v w = tt
+  still-then g empty v w = v
+  still-then g (byte c) v w = absurd w
+  still-then g (h ⨾ k) v w = T-both (still? g) (still? (h ⨾ k)) v w
+  still-then g (h ∣ k) v w = T-both (still? g) (still? (h ∣ k)) v w
+  still-then g (star h) v w = absurd w
+  still-then g (part l h) v w = absurd w
+  still-then g (rest c h) v w = T-both (still? g) (still? h) v w
+  still-then g (nest o c l m h r n) v w = absurd w
+
+  still-seq : (g h : Grammar L) → T (still? g) → T (still? h) → T (still? (seq g h))
+  still-seq void h v w = tt
+  still-seq empty h v w = w
+  still-seq (byte c) h v w = absurd v
+  still-seq (f ⨾ g) h v w = still-seq f (seq g h) (T-left (still? f) (still? g) v) (still-seq g h (T-right (still? f) (still? g) v) w)
+  still-seq (f ∣ g) h v w = still-then (f ∣ g) h v w
+  still-seq (star g) h v w = absurd v
+  still-seq (part l g) h v w = absurd v
+  still-seq (rest c g) h v w = still-then (rest c g) h v w
+  still-seq (nest o c l m g r n) h v w = absurd v
+
+  still-or : (g h : Grammar L) → T (still? g) → T (still? h) → T (still? (or-else g h))
+  still-or g void v w = v
+  still-or g empty v w = T-both (still? g) true v w
+  still-or g (byte c) v w = absurd w
+  still-or g (h ⨾ k) v w = T-both (still? g) (still? (h ⨾ k)) v w
+  still-or g (h ∣ k) v w = T-both (still? g) (still? (h ∣ k)) v w
+  still-or g (star h) v w = absurd w
+  still-or g (part l h) v w = absurd w
+  still-or g (rest c h) v w = T-both (still? g) (still? h) v w
+  still-or g (nest o c l m h r n) v w = absurd w
+
+  still-alt : (g h : Grammar L) → T (still? g) → T (still? h) → T (still? (alt g h))
+  still-alt void h v w = w
+  still-alt empty h v w = still-or empty h v w
+  still-alt (byte c) h v w = absurd v
+  still-alt (f ⨾ g) h v w = still-or (f ⨾ g) h v w
+  still-alt (f ∣ g) h v w = still-or (f ∣ g) h v w
+  still-alt (star g) h v w = absurd v
+  still-alt (part l g) h v w = absurd v
+  still-alt (rest c g) h v w = still-or (rest c g) h v w
+  still-alt (nest o c l m g r n) h v w = absurd v
+
+  still-during : (c : Part L) (g : Grammar L) → T (still? g) → T (still? (during c g))
+  still-during c void w = tt
+  still-during c empty w = w
+  still-during c (byte d) w = w
+  still-during c (f ⨾ g) w = w
+  still-during c (f ∣ g) w = w
+  still-during c (star g) w = w
+  still-during c (part l g) w = w
+  still-during c (rest d g) w = w
+  still-during c (nest o d l m g r n) w = w
+
+  pub still-ends : (g : Grammar L) (i : ℕ) → T (still? (ends g i))
+  still-ends void i = tt
+  still-ends empty i = tt
+  still-ends (byte c) i = tt
+  still-ends (g ⨾ h) i = still-seq (ends g i) (ends h i) (still-ends g i) (still-ends h i)
+  still-ends (g ∣ h) i = still-alt (ends g i) (ends h i) (still-ends g i) (still-ends h i)
+  still-ends (star g) i = tt
+  still-ends (part l g) i = still-during (record { label = l; start = i; text = [] }) (ends g i) (still-ends g i)
+  still-ends (rest c g) i = still-during c (ends g i) (still-ends g i)
+  still-ends (nest o c l m g r n) i = tt
+
+  ended : (c : Part L) (i : ℕ) (x : Bool) → (past (c .start) (c .text) ≡ i) ⊎ (T x × (past (c .start) (c .text) ≤ i)) → past (c .start) (c .text) ≤ suc i
+  ended c i x (inl e) = omega arith
+  ended c i x (inr e) = omega arith
+
+  begun-ends : (g : Grammar L) (i : ℕ) → Begun i g → Begun (suc i) (ends g i)
+  begun-ends void i w = tt
+  begun-ends empty i w = tt
+  begun-ends (byte c) i w = tt
+  begun-ends (g ⨾ h) i (inl w) =
+      begun-seq (suc i) (ends g i) (ends h i) (inr (still-ends g i, begun-ends g i (w .0), begun-ends h i (fresh-begun h i (w .1))))
+  begun-ends (g ⨾ h) i (inr w) =
+      begun-seq (suc i) (ends g i) (ends h i) (inr (still-ends g i, begun-ends g i (w .1), begun-ends h i (w .2)))
+  begun-ends (g ∣ h) i w = begun-alt (suc i) (ends g i) (ends h i) (begun-ends g i (w .0)) (begun-ends h i (w .1))
+  begun-ends (star g) i w = tt
+  begun-ends (part l g) i w =
+      begun-during (suc i) (record { label = l; start = i; text = [] }) (ends g i)
+      (begun-ends g i (fresh-begun g i w), omega arith, inr (still-ends g i, omega arith))
+  begun-ends (rest c g) i w =
+      begun-during (suc i) c (ends g i) (begun-ends g i (w .0), omega (arith, w .1), inr (still-ends g i, ended c i (still? g) (w .2)))
+  begun-ends (nest o c l m g r n) i w = tt
+
+  begun-cond : (x : Bool) (i : ℕ) (g : Grammar L) → Begun i g → Begun i (cond x g void)
+  begun-cond true i g w = w
+  begun-cond false i g w = tt
+
+  begun-gone : (c : Part L) (i b : ℕ) (g : Grammar L) → deriv g i b ≡ void → Begun (suc i) (during (grown c (b ∷ [])) (deriv g i b))
+  begun-gone c i b g e = rw e tt
+
+  begun-none : (i b : ℕ) (g h : Grammar L) → deriv g i b ≡ void → Begun (suc i) (seq (deriv g i b) h)
+  begun-none i b g h e = rw e tt
+
+  pub begun-deriv : (g : Grammar L) (i b : ℕ) → Begun i g → Begun (suc i) (deriv g i b)
+  begun-deriv void i b w = tt
+  begun-deriv empty i b w = tt
+  begun-deriv (byte c) i b w = begun-cond (c .has b) (suc i) empty tt
+  begun-deriv (g ⨾ h) i b (inl w) =
+      begun-alt (suc i) (seq (deriv g i b) h) (seq (ends g i) (deriv h i b))
+      (begun-seq (suc i) (deriv g i b) h (inl (begun-deriv g i b (w .0), w .1)))
+      (begun-seq (suc i) (ends g i) (deriv h i b) (inr (still-ends g i, begun-ends g i (w .0), begun-deriv h i b (fresh-begun h i (w .1)))))
+  begun-deriv (g ⨾ h) i b (inr w) =
+      begun-alt (suc i) (seq (deriv g i b) h) (seq (ends g i) (deriv h i b))
+      (begun-none i b g h (still-deriv g i b (w .0)))
+      (begun-seq (suc i) (ends g i) (deriv h i b) (inr (still-ends g i, begun-ends g i (w .1), begun-deriv h i b (w .2))))
+  begun-deriv (g ∣ h) i b w = begun-alt (suc i) (deriv g i b) (deriv h i b) (begun-deriv g i b (w .0)) (begun-deriv h i b (w .1))
+  begun-deriv (star g) i b w = begun-seq (suc i) (deriv g i b) (star g) (inl (begun-deriv g i b (fresh-begun g i w), w))
+  begun-deriv (part l g) i b w =
+      begun-during (suc i) (record { label = l; start = i; text = b ∷ [] }) (deriv g i b)
+      (begun-deriv g i b (fresh-begun g i w), omega arith, inl refl)
+  begun-deriv (rest c g) i b w =
+      ⊎-elim
+      (λ e.
+      begun-during (suc i) (grown c (b ∷ [])) (deriv g i b)
+      (begun-deriv g i b (w .0), omega (arith, w .1), inl (past-snoc (c .start) (c .text) b ∙ ap suc e)))
+      (λ e. begun-gone c i b g (still-deriv g i b (e .0))) (w .2)
+  begun-deriv (nest o c l m g r n) i b w =
+      let one : Part L = record { label = l; start = i; text = b ∷ [] } in
+      let two : Part L = record { label = m; start = i; text = b ∷ [] } in
+      let up = cond (o .has b) (rest one empty ⨾ nest o c l m g empty (suc n)) void in
+      let down = cond (c .has b) (then (rest two empty) (closed o c l m g n)) void in
+      let item = inside o c l m g n (deriv g i b) in
+      begun-alt (suc i) (inside o c l m g n (deriv r i b)) (seq (ends r i) (alt up (alt down item)))
+      (begun-inside (suc i) o c l m g n (deriv r i b) (w .0, begun-deriv r i b (w .1)))
+      (begun-seq (suc i) (ends r i) (alt up (alt down item))
+      (inr (
+        still-ends r i,
+        begun-ends r i (w .1),
+        begun-alt (suc i) up (alt down item)
+            (begun-cond (o .has b) (suc i) (rest one empty ⨾ nest o c l m g empty (suc n)) (inr (tt, (tt, omega arith, inl refl), (w .0, tt))))
+            (begun-alt (suc i) down item
+            (begun-cond (c .has b) (suc i) (then (rest two empty) (closed o c l m g n))
+            (begun-then (suc i) (rest two empty) (closed o c l m g n) (inr (tt, (tt, omega arith, inl refl), begun-closed (suc i) o c l m g n (w .0)))))
+            (begun-inside (suc i) o c l m g n (deriv g i b) (w .0, begun-deriv g i b (fresh-begun g i (w .0))))),
+      )))
+
+  pub begun-after : (g : Grammar L) (i : ℕ) (p : List ℕ) → Begun i g → Begun (past i p) (after g i p)
+  begun-after g i [] w = w
+  begun-after g i (b ∷ p) w = begun-after (deriv g i b) (suc i) p (begun-deriv g i b w)
+
+  -- the theorem
+  take-more : (c : Part L) (g : Grammar L) (i : ℕ) (t : List ℕ) (ps : List (Part L)) → c .start < i
+      → (past (c .start) (c .text) ≡ i) ⊎ (T (still? g) × (past (c .start) (c .text) ≤ i)) → Parses g i t ps → take (i - c .start) (c .text ++ t) ≡ c .text
+  take-more c g i t ps l (inl e) m = take-at (c .text) t (i - c .start) (omega (arith, past-length (c .start) (c .text)))
+  take-more c g i t ps l (inr e) m =
+      rw (still-nil g i t ps (e .0) m, append-nil) (all (c .text) (i - c .start) (omega (arith, past-length (c .start) (c .text), e .1)))
+    where
+      all : (s : List ℕ) (n : ℕ) → length s ≤ n → take n s ≡ s
+      all [] zero h = refl
+      all [] (suc n) h = refl
+      all (b ∷ s) zero h = absurd (omega arith)
+      all (b ∷ s) (suc n) h = ap (λ (l : List ℕ). b ∷ l) (all s n (omega arith))
+
+  here : (h : Grammar L) (i : ℕ) (t u : List ℕ) (ps : List (Part L)) → t ≡ [] → Parses h (past i t) u ps → Parses h i u ps
+  here h i [] u ps e m = m
+  here h i (b ∷ t) u ps e m = absurd (cons≢nil e)
+
+  cut-one : (i : ℕ) (c : Part L) (t : List ℕ) (qs l : List (Part L)) → c .start < i → take (i - c .start) (c .text ++ t) ≡ c .text → cut i qs ≡ l → cut i (grown c t ∷ qs) ≡ c ∷ l
+  cut-one i c t qs l s e f =
+      rw (lt-ltb (c .start) i s)
+      (ap (λ (x : List ℕ). record { label = c .label; start = c .start; text = x } ∷ cut i qs) e ∙ ap (λ (k : List (Part L)). c ∷ k) f)
+
+  pub held-cut : (g : Grammar L) (i : ℕ) (t : List ℕ) (ps : List (Part L)) → Begun i g → T (clear? g) → Parses g i t ps → cut i ps ≡ held g
+  held-cut void i t ps w f m = absurd m
+  held-cut empty i t ps w f m = ap (cut i) (m .1)
+  held-cut (byte c) i t ps w f m = ap (cut i) (m .3)
+  held-cut (g ⨾ h) i t ps (inl w) f m =
+      ap (cut i) (m .5) ∙ cut-append i (m .2) (m .3)
+      ∙ ap (λ (l : List (Part L)). l ++ cut i (m .3)) (held-cut g i (m .0) (m .2) (w .0) (T-left (clear? g) (clear? h) f) (m .6))
+      ∙ ap (λ (l : List (Part L)). held g ++ l) (fresh-cut h i (past i (m .0)) (m .1) (m .3) (w .1) (past-le i (m .0)) (m .7) ∙ sym (fresh-held h (w .1)))
+  held-cut (g ⨾ h) i t ps (inr w) f m =
+      ap (cut i) (m .5) ∙ cut-append i (m .2) (m .3)
+      ∙ ap (λ (l : List (Part L)). l ++ cut i (m .3)) (held-cut g i (m .0) (m .2) (w .1) (T-left (clear? g) (clear? h) f) (m .6))
+      ∙ ap (λ (l : List (Part L)). held g ++ l)
+      (held-cut h i (m .1) (m .3) (w .2) (T-right (clear? g) (clear? h) f) (here h i (m .0) (m .1) (m .3) (still-nil g i (m .0) (m .2) (w .0) (m .6)) (m .7)))
+  held-cut (g ∣ h) i t ps w f m =
+      fresh-cut (g ∣ h) i i t ps f (omega arith) m ∙ sym (fresh-held g (T-left (fresh? g) (fresh? h) f))
+  held-cut (star g) i t ps w f m = fresh-cut (star g) i i t ps f (omega arith) m
+  held-cut (part l g) i t ps w f m = fresh-cut (part l g) i i t ps f (omega arith) m
+  held-cut (rest c g) i t ps w f m =
+      ap (cut i) (m .1) ∙ cut-one i c t (m .0) (held g) (w .1) (take-more c g i t (m .0) (w .1) (w .2) (m .2)) (held-cut g i t (m .0) (w .0) f (m .2))
+  held-cut (nest o c l m g r n) i t ps w f k =
+      ap (cut i) (k .5) ∙ cut-append i (k .2) (k .3)
+      ∙ ap (λ (x : List (Part L)). x ++ cut i (k .3)) (held-cut r i (k .0) (k .2) (w .1) (T-right (fresh? g) (clear? r) f) (k .6))
+      ∙ ap (λ (x : List (Part L)). held r ++ x)
+      (fresh-nest o c l m i (Parses g) (λ v u qs y z. fresh-cut g i v u qs (w .0) y z) (suc n) (past i (k .0)) (past-le i (k .0)) (k .1) (k .3) (k .7))
+      ∙ append-nil (held r)
+
+  -- at the end of a text
+  fresh-end : (g : Grammar L) (i : ℕ) (ps : List (Part L)) → T (fresh? g) → T (still? g) → Parses g i [] ps → ps ≡ []
+  fresh-end void i ps f s m = absurd m
+  fresh-end empty i ps f s m = m .1
+  fresh-end (byte c) i ps f s m = absurd s
+  fresh-end (g ⨾ h) i ps f s m =
+      let z = seq-nil g h i ps (m .0) (m .1) (m .2) (m .3) (m .4) (m .5) (m .6) (m .7) in
+      rw (z .2, fresh-end g i (z .0) (T-left (fresh? g) (fresh? h) f) (T-left (still? g) (still? h) s) (z .3), fresh-end h i (z .1) (T-right (fresh? g) (fresh? h) f) (T-right (still? g) (still? h) s) (z .4))
+  fresh-end (g ∣ h) i ps f s (inl m) = fresh-end g i ps (T-left (fresh? g) (fresh? h) f) (T-left (still? g) (still? h) s) m
+  fresh-end (g ∣ h) i ps f s (inr m) = fresh-end h i ps (T-right (fresh? g) (fresh? h) f) (T-right (still? g) (still? h) s) m
+  fresh-end (star g) i ps f s m = absurd s
+  fresh-end (part l g) i ps f s m = absurd s
+  fresh-end (rest c g) i ps f s m = absurd f
+  fresh-end (nest o c l m g r n) i ps f s k = absurd s
+
+  pub held-end : (g : Grammar L) (i : ℕ) (ps : List (Part L)) → T (clear? g) → T (still? g) → Parses g i [] ps → ps ≡ held g
+  held-end void i ps f s m = absurd m
+  held-end empty i ps f s m = m .1
+  held-end (byte c) i ps f s m = absurd s
+  held-end (g ⨾ h) i ps f s m =
+      let z = seq-nil g h i ps (m .0) (m .1) (m .2) (m .3) (m .4) (m .5) (m .6) (m .7) in
+      rw (z .2, held-end g i (z .0) (T-left (clear? g) (clear? h) f) (T-left (still? g) (still? h) s) (z .3), held-end h i (z .1) (T-right (clear? g) (clear? h) f) (T-right (still? g) (still? h) s) (z .4))
+  held-end (g ∣ h) i ps f s m = fresh-end (g ∣ h) i ps f s m ∙ sym (fresh-held g (T-left (fresh? g) (fresh? h) f))
+  held-end (star g) i ps f s m = absurd s
+  held-end (part l g) i ps f s m = absurd s
+  held-end (rest c g) i ps f s m =
+      m .1 ∙ ap (λ (x : List ℕ). record { label = c .label; start = c .start; text = x } ∷ m .0) (append-nil (c .text)) ∙ ap (λ (k : List (Part L)). c ∷ k) (held-end g i (m .0) f s (m .2))
+  held-end (nest o c l m g r n) i ps f s k = absurd s

@@ -1,0 +1,11 @@
+pub mod Derivative
+pub mod Longest
+pub mod Shapes
+pub mod Held
+pub mod Exact
+pub mod OneWay
+pub mod Deterministic
+pub mod Ahead
+pub mod Slices
+pub mod Loop
+pub mod Scans

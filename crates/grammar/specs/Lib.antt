@@ -1,0 +1,10 @@
+pub mod Grammar
+pub mod Classes
+pub mod Beginnings
+pub mod Reading
+pub mod Derivative
+pub mod Judge
+pub mod Checks
+pub mod Slices
+pub mod Comparing
+pub mod Scans

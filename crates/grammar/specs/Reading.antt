@@ -1,0 +1,75 @@
+-- What reading a header value must answer: document 01, "Refusal numbers", over any grammar, limits, faults and values.
+use Prim.Native.Nat.{ℕ, suc, _-_, _≤_, _<_}
+use mathlib.Core.Path.{_≡_}
+use mathlib.Core.Bool.{cond}
+use mathlib.Core.List.{List, [], _∷_, _++_}
+use mathlib.Core.Option.{Option, none, some}
+use lib.Dec.{T, ltb}
+use lib.ListN.{length, take}
+use Rattle.grammar.specs.Grammar.{Part, Grammar, Parses, bytes?}
+use Rattle.grammar.specs.Beginnings.{Matches, Longest}
+
+-- A header value has at most 8,192 bytes.
+abbrev pub value-limit : ℕ
+value-limit = 8192
+
+-- The limits that a byte breaks: a number above its limit, more than 16 parameters, an attribute repeated, a comment nested too deep.
+pub data Limit : Type 0 where
+  above crowded repeated deep : Limit
+
+-- The faults of a well-formed value as a whole: no such date or time, a day name that disagrees with the date.
+pub data Fault : Type 0 where
+  no-such-date wrong-day : Fault
+
+-- their numbers; 1 and 13 are none of them
+abbrev pub limit-number : Limit → ℕ
+limit-number above = 2
+limit-number crowded = 10
+limit-number repeated = 11
+limit-number deep = 12
+
+abbrev pub fault-number : Fault → ℕ
+fault-number no-such-date = 3
+fault-number wrong-day = 4
+
+-- A kind of header value: what is well-formed; which limit the byte at the place k breaks, the parts through it being ps; the fault of
+-- the parts of a whole text; what they mean.
+pub record Rules (L A : Type 0) : Type 0 where
+  pub grammar : Grammar L
+  pub limit : (k : ℕ) (ps : List (Part L)) → Option Limit
+  pub fault : (ps : List (Part L)) → Option Fault
+  pub value : (ps : List (Part L)) → A
+
+-- The parts that have begun before the place n, as far as they stand before it.
+abbrev pub cut : {L : Type 0} → ℕ → List (Part L) → List (Part L)
+cut n [] = []
+cut n (c ∷ ps) = cond (ltb (c .start) n) (record { label = c .label; start = c .start; text = take (n - c .start) (c .text) } ∷ cut n ps) (cut n ps)
+
+module _ {L A : Type 0} (r : Rules L A) where
+  -- some continuation makes the beginning p well-formed, and ps are the parts as far as p holds them
+  abbrev pub SoFar : List ℕ → List (Part L) → Type 0
+  SoFar p ps = (t : List ℕ) × (qs : List (Part L)) × T (bytes? t) × Parses (r .grammar) 0 (p ++ t) qs × (ps ≡ cut (length p) qs)
+
+  -- the byte at the place k leaves a continuation and breaks the limit l
+  abbrev pub Breaks : List ℕ → Limit → ℕ → Type 0
+  Breaks s l k = (k < length s) × ((ps : List (Part L)) × SoFar (take (suc k) s) ps × (r .limit k ps ≡ some l))
+
+  -- no byte before the place n breaks a limit
+  abbrev pub Sound : List ℕ → ℕ → Type 0
+  Sound s n = (k : ℕ) (l : Limit) → k < n → Breaks s l k → ⊥
+
+-- an answer: the value, or the number and the place of a refusal
+pub data Verdict (A : Type 0) : Type 0 where
+  value : A → Verdict A
+  refused : (number place : ℕ) → Verdict A
+
+-- The answer to a header value. Order: 13; then the lowest place among 1, 2, 10, 11, 12; then, on a well-formed value, 3, then 4.
+pub data Answers {L A : Type 0} (r : Rules L A) (s : List ℕ) : Verdict A → Type 0 where
+  too-long : value-limit < length s → Answers r s (refused 13 value-limit)
+  malformed : {p : ℕ} → length s ≤ value-limit → (Matches (r .grammar) s → ⊥) → Longest (r .grammar) s p → Sound r s p
+      → Answers r s (refused 1 p)
+  breaks : {l : Limit} {p : ℕ} → length s ≤ value-limit → Breaks r s l p → Sound r s p → Answers r s (refused (limit-number l) p)
+  faulty : {ps : List (Part L)} {f : Fault} → length s ≤ value-limit → Parses (r .grammar) 0 s ps → Sound r s (length s)
+      → r .fault ps ≡ some f → Answers r s (refused (fault-number f) 0)
+  reads : {ps : List (Part L)} → length s ≤ value-limit → Parses (r .grammar) 0 s ps → Sound r s (length s)
+      → r .fault ps ≡ none → Answers r s (value (r .value ps))

@@ -1,0 +1,134 @@
+-- The reader's scans against the grammar: the name, the major number, the point, the minor number, the end.
+use Prim.Native.Nat.{ℕ, suc, _+_, _≤_, _<_}
+use native.Mathlib.Omega.{arith}
+use borrow.Author.Tests.{ne-eqb, eq-eqb, lt-ltb, le-ltb, ltb-false}
+use mathlib.Core.Path.{_≡_, refl, sym, ap, ap₂, _∙_}
+use mathlib.Core.Bool.{Bool, true, false, cond, _||_}
+use mathlib.Core.List.{List, [], _∷_, _++_}
+use mathlib.Core.Option.{none, some}
+use lib.Dec.{ltb, eqb}
+use lib.ListN.{length, getD, drop}
+use Rattle.grammar.specs.Grammar.{Part, Grammar, void, empty, byte, part, plus, just, lower}
+use Rattle.grammar.specs.Derivative.{deriv, then}
+use Rattle.grammar.specs.Reading.{above, Verdict, value, refused}
+use Rattle.grammar.specs.Checks.{ahead}
+use Rattle.grammar.specs.Judge.{header}
+use Rattle.grammar.specs.Scans.{slice, from}
+use Rattle.grammar.proofs.Shapes.{byte-step}
+use Rattle.grammar.proofs.Loop.{header-short}
+use Rattle.grammar.proofs.Scans.{Run, first-is, first-not, first-none, ends-well, goes-too-far}
+use Rattle.octets.specs.declared.Decimal.the-variants.{Number, Above, Missing}
+use Rattle.octets.specs.Bytes.{digit?}
+use Rattle.octets.specs.Classes.{DIGIT}
+use Rattle.octets.specs.Case.{agreeing}
+use Rattle.octets.specs.Numbers.{number, decimal-at, number-limit}
+use Rattle.octets.proofs.Bytes.{digit-low}
+use Rattle.octets.proofs.Scans.{run-is, number-of, number-fits, number-reads, number-missing, number-passes, number-limits, word-reads}
+use Rattle.version.specs.Grammar.{Name, major, minor, http, numbers, version, largest, rules}
+use Rattle.version.specs.Scan.{point-and-minor, major-part, AfterMajor}
+
+-- no digit begins what follows the major number
+point-apart : (j b : ℕ) → digit? b ≡ true → deriv point-and-minor j b ≡ void
+point-apart j b d = byte-step (just 46 tt) j b (part minor (plus (byte DIGIT))) ∙ rw (ne-eqb b 46 (λ e. absurd (omega (arith, digit-low b d))))
+
+-- all of the name stands there
+agreeing-short : (w s : List ℕ) → (agreeing w s ≤ length w) × (agreeing w s ≤ length s)
+agreeing-short [] s = (omega arith, omega arith)
+agreeing-short (a ∷ w) [] = (omega arith, omega arith)
+agreeing-short (a ∷ w) (b ∷ s) = go (eqb (lower b) (lower a)) (agreeing-short w s)
+  where
+    go : (x : Bool) → (agreeing w s ≤ length w) × (agreeing w s ≤ length s)
+        → (cond x (suc (agreeing w s)) 0 ≤ suc (length w)) × (cond x (suc (agreeing w s)) 0 ≤ suc (length s))
+    go true h = (omega (arith, h .0), omega (arith, h .1))
+    go false h = (omega arith, omega arith)
+
+pub name-is : (s : List ℕ) → 5 ≤ agreeing http s → agreeing http s ≡ 5
+name-is s h = omega (arith, agreeing-short http s .0)
+
+pub name-inside : (s : List ℕ) → agreeing http s ≡ 5 → 5 ≤ length s
+name-inside s h = omega (arith, agreeing-short http s .1)
+
+module _ (s : List ℕ) (short : length s ≤ 8192) where
+  -- the name
+  pub name-not : agreeing http s < 5 → header rules s ≡ refused 1 (agreeing http s)
+  name-not h = header-short rules s short ∙ word-reads rules s [] (λ n. refl) numbers refl refl http tt 0 .1 h ∙ ap (refused 1) (omega arith)
+
+  module _ (h : agreeing http s ≡ 5) (long : 5 ≤ length s) where
+    named : header rules s ≡ from rules s numbers 5
+    named = header-short rules s short ∙ word-reads rules s [] (λ n. refl) numbers refl refl http tt 0 .0 h
+
+    limits : (n : ℕ) (t : List ℕ) → rules .limit n ([] ++ record { label = major; start = 5; text = t } ∷ []) ≡ cond (ltb largest (number t)) (some above) none
+    limits = number-limits (λ l. true) largest [] refl major 5 refl
+
+    pub major-missing : decimal-at largest s 5 ≡ Missing → header rules s ≡ refused 1 5
+    major-missing d = named ∙ number-missing rules s [] major point-and-minor refl refl point-apart 5 long largest limits d
+
+    pub major-passes : (p e : ℕ) → decimal-at largest s 5 ≡ Above p e → header rules s ≡ refused 2 p
+    major-passes p e d = named ∙ number-passes rules s [] major point-and-minor refl refl point-apart 5 long largest limits p e d
+
+    pub major-reads : (v e : ℕ) → decimal-at largest s 5 ≡ Number v e → AfterMajor s v e
+    major-reads v e d =
+        let w = number-of largest s 5 v e d in
+        record {
+          within = omega (arith, w .end, run-is digit? s 5 long .within);
+          is = w .is;
+          small = number-fits largest s 5 v e w;
+          reads = named ∙ number-reads rules s [] major point-and-minor refl refl point-apart 5 long largest limits v e d;
+        }
+
+-- behind the major number
+module _ (s : List ℕ) (n e : ℕ) (a : AfterMajor s n e) where
+  abbrev cs : List (Part Name)
+  cs = major-part s e ∷ []
+
+  below : rules .limit e cs ≡ none
+  below = number-limits (λ l. true) largest [] refl major 5 refl e (slice s 5 e) ∙ rw (a .small)
+
+  pub point-none : length s ≤ e → header rules s ≡ refused 1 e
+  point-none h = a .reads ∙ first-none rules s cs (just 46 tt) (part minor (plus (byte DIGIT))) refl e h
+
+  module _ (at : e < length s) where
+    pub point-not : (getD s e 0 ≡ 46 → ⊥) → header rules s ≡ refused 1 e
+    point-not h = a .reads ∙ first-not rules s cs (just 46 tt) (part minor (plus (byte DIGIT))) refl e at (ne-eqb (getD s e 0) 46 h)
+
+    module _ (h : getD s e 0 ≡ 46) where
+      pointed : header rules s ≡ from rules s (ahead cs (part minor (plus (byte DIGIT)))) (e + 1)
+      pointed = a .reads ∙ first-is rules s cs (just 46 tt) (part minor (plus (byte DIGIT))) refl e at (eq-eqb (getD s e 0) 46 h) below
+
+      apart : (j b : ℕ) → digit? b ≡ true → deriv {L = Name} empty j b ≡ void
+      apart j b d = refl
+
+      inside : e + 1 ≤ length s
+      inside = omega arith
+
+      minor-limits : (k : ℕ) (t : List ℕ) → rules .limit k (cs ++ record { label = minor; start = e + 1; text = t } ∷ []) ≡ cond (ltb largest (number t)) (some above) none
+      minor-limits = number-limits (λ l. true) largest cs (or-one (a .small)) minor (e + 1) refl
+        where
+          or-one : {x : Bool} → x ≡ false → (x || false) ≡ false
+          or-one f = rw f
+
+      pub minor-missing : decimal-at largest s (e + 1) ≡ Missing → header rules s ≡ refused 1 (e + 1)
+      minor-missing d = pointed ∙ number-missing rules s cs minor empty refl refl apart (e + 1) inside largest minor-limits d
+
+      pub minor-passes : (p f : ℕ) → decimal-at largest s (e + 1) ≡ Above p f → header rules s ≡ refused 2 p
+      minor-passes p f d = pointed ∙ number-passes rules s cs minor empty refl refl apart (e + 1) inside largest minor-limits p f d
+
+      module _ (v f : ℕ) (d : decimal-at largest s (e + 1) ≡ Number v f) where
+        read-on : header rules s ≡ from rules s (ahead (cs ++ record { label = minor; start = e + 1; text = slice s (e + 1) f } ∷ []) empty) f
+        read-on = pointed ∙ number-reads rules s cs minor empty refl refl apart (e + 1) inside largest minor-limits v f d
+
+        pub version-goes-on : f < length s → header rules s ≡ refused 1 f
+        version-goes-on h = read-on ∙ goes-too-far rules s (cs ++ record { label = minor; start = e + 1; text = slice s (e + 1) f } ∷ []) f h
+
+        pub minor-small : v ≤ 65535
+        minor-small =
+            let w = number-of largest s (e + 1) v f d in
+            omega (arith, ltb-false largest (number (slice s (e + 1) f)) (number-fits largest s (e + 1) v f w), w .is)
+
+        pub version-reads : length s ≤ f → header rules s ≡ value (record { major = n; minor = v })
+        version-reads h =
+            read-on ∙ ends-well rules s (cs ++ record { label = minor; start = e + 1; text = slice s (e + 1) f } ∷ []) f h
+            ∙ ap₂ (λ (x y : ℕ). value (record { major = x; minor = y })) (a .is) (number-of largest s (e + 1) v f d .is)
+
+pub major-small : (s : List ℕ) (n e : ℕ) → AfterMajor s n e → n ≤ 65535
+major-small s n e a = omega (arith, ltb-false largest (number (slice s 5 e)) (a .small), a .is)

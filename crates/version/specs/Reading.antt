@@ -1,0 +1,29 @@
+-- Document 01's numbers and values for each case of the answers; the order of versions.
+use Prim.Native.Nat.{ℕ}
+use mathlib.Core.Bool.{cond}
+use lib.Dec.{ltb}
+use Rattle.grammar.specs.Reading as G
+use Rattle.grammar.specs.Reading.{Verdict}
+use Rattle.grammar.specs.Comparing.{Comparison, outcome, refused-at}
+use Rattle.version.specs.declared.Version.{Version}
+use Rattle.version.specs.declared.Reading.{Reading}
+use Rattle.version.specs.declared.Reading.the-variants.{Read, Refused}
+use Rattle.version.specs.declared.Order.{Order}
+use Rattle.version.specs.declared.Order.the-variants.{Less, Equal, Greater}
+use Rattle.version.specs.declared.Compared.{Compared}
+use Rattle.version.specs.declared.Compared.the-variants.{Ordered, FirstRefused, SecondRefused}
+
+abbrev pub verdict : Reading → Verdict Version
+verdict (Read v) = G.value v
+verdict (Refused r) = G.refused (r .number) (r .place)
+
+abbrev pub comparison : Compared → Comparison Order
+comparison (Ordered o) = outcome o
+comparison (FirstRefused r) = refused-at 1 (r .number) (r .place)
+comparison (SecondRefused r) = refused-at 2 (r .number) (r .place)
+
+-- by major, then minor, as numbers
+abbrev pub precedence : Version → Version → Order
+precedence v w =
+    cond (ltb (v .major) (w .major)) Less (cond (ltb (w .major) (v .major)) Greater
+    (cond (ltb (v .minor) (w .minor)) Less (cond (ltb (w .minor) (v .minor)) Greater Equal)))

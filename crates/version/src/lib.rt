@@ -1,0 +1,135 @@
+// HTTP versions: RFC 2616 3.1.
+ghost use mathlib.Core.Path.{_≡_};
+ghost use lib.ListN.{length};
+ghost use Rattle.grammar.specs.Comparing.{compare as comparing};
+ghost use Rattle.grammar.specs.Judge.{header};
+ghost use Rattle.version.specs.Grammar.{rules};
+ghost use Rattle.version.specs.Reading.{verdict, comparison, precedence};
+ghost use Rattle.version.specs.Scan.{AfterMajor};
+ghost use Rattle.version.specs.Writing.{length-verdict, writing, exit-bytes};
+use octets::Decimal;
+use octets::Refusal;
+
+// The longest header value, and the largest number in a version.
+const VALUE_LIMIT: usize = 8192;
+
+const NUMBER_LIMIT: u64 = 65535;
+
+// The bytes of the name and its slash.
+const NAME_LEN: usize = 5;
+
+pub struct Version {
+    pub major: u32,
+    pub minor: u32,
+}
+
+pub enum Reading {
+    Read(Version),
+    Refused(Refusal),
+}
+
+pub enum Order {
+    Less,
+    Equal,
+    Greater,
+}
+
+// How two versions given as bytes compare, or which of them was refused.
+pub enum Compared {
+    Ordered(Order),
+    FirstRefused(Refusal),
+    SecondRefused(Refusal),
+}
+
+pub enum Written {
+    Length(usize),
+    Refused(Refusal),
+}
+
+impl Version {
+    pub const HTTP_1_1: Version = Version { major: 1, minor: 1 };
+
+    pub const HTTP_1_0: Version = Version { major: 1, minor: 0 };
+
+    // Ordered by major, then minor, as numbers.
+    pub fn compare(self, other: Version) -> Order
+        ensures { λ r. ⌜ r ≡ precedence self other ⌝ }
+    {
+        if self.major < other.major {
+            return Order::Less;
+        }
+        if self.major > other.major {
+            return Order::Greater;
+        }
+        if self.minor < other.minor {
+            return Order::Less;
+        }
+        if self.minor > other.minor {
+            return Order::Greater;
+        }
+        Order::Equal
+    }
+
+    // `HTTP/` in any letter case, digits, `.`, digits.
+    pub fn read(s: &[u8]) -> Reading
+        ensures { λ r. ⌜ verdict r ≡ header rules (now (s .entry)) ⌝ }
+    {
+        if s.len() > VALUE_LIMIT {
+            return refused(13, VALUE_LIMIT);
+        }
+        let agreed = octets::word_at(b"HTTP/", s, 0);
+        if agreed < NAME_LEN {
+            return refused(1, agreed);
+        }
+        match octets::read_decimal(s, NAME_LEN, NUMBER_LIMIT) {
+            Decimal::Number { value, end } => read_minor(s, value, end),
+            Decimal::Above { place, end: _ } => refused(2, place),
+            Decimal::Missing => refused(1, NAME_LEN),
+        }
+    }
+
+    // Reads the first, then the second, and compares them.
+    pub fn compare_bytes(a: &[u8], b: &[u8]) -> Compared
+        ensures { λ r. ⌜ comparison r ≡ comparing precedence (header rules (now (a .entry))) (header rules (now (b .entry))) ⌝ }
+    {
+        match Version::read(a) {
+            Reading::Refused(r) => Compared::FirstRefused(r),
+            Reading::Read(v) => match Version::read(b) {
+                Reading::Refused(r) => Compared::SecondRefused(r),
+                Reading::Read(w) => Compared::Ordered(v.compare(w)),
+            },
+        }
+    }
+}
+
+fn refused(number: u8, place: usize) -> Reading
+    ensures { λ r. ⌜ r ≡ Reading.Refused (record { number = number; place = place }) ⌝ }
+{
+    Reading::Refused(Refusal { number, place })
+}
+
+// Reads on from the place behind the major number.
+fn read_minor(s: &[u8], major: u64, at: usize) -> Reading
+    requires { ⌜ AfterMajor (now s) major at ⌝ }
+    ensures { λ r. ⌜ verdict r ≡ header rules (now (s .entry)) ⌝ }
+{
+    if s.len() <= at {
+        return refused(1, at);
+    }
+    if s[at] != b'.' {
+        return refused(1, at);
+    }
+    match octets::read_decimal(s, at + 1, NUMBER_LIMIT) {
+        Decimal::Above { place, end: _ } => refused(2, place),
+        Decimal::Missing => refused(1, at + 1),
+        Decimal::Number { value, end } => {
+            if end < s.len() {
+                return refused(1, end);
+            }
+            Reading::Read(Version {
+                major: major as u32,
+                minor: value as u32,
+            })
+        }
+    }
+}
