@@ -16,6 +16,12 @@ pub struct Refusal {
     pub place: usize,
 }
 
+// What a writer answers: the length of what it wrote at the front of the output, or why it wrote nothing.
+pub enum Written {
+    Length(usize),
+    Refused(Refusal),
+}
+
 // A run of decimal digits under a limit: the number and the place behind the run; the digit that passes the limit; no digit.
 pub enum Decimal {
     Number { value: u64, end: usize },

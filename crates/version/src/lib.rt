@@ -1,14 +1,19 @@
 // HTTP versions: RFC 2616 3.1.
 ghost use mathlib.Core.Path.{_≡_};
-ghost use lib.ListN.{length};
+ghost use mathlib.Core.Bool.{false};
+ghost use mathlib.Core.List.{_++_};
+ghost use Prim.Native.Nat.{_≤_};
+ghost use lib.ListN.{length, drop};
 ghost use Rattle.grammar.specs.Comparing.{compare as comparing};
 ghost use Rattle.grammar.specs.Judge.{header};
 ghost use Rattle.version.specs.Grammar.{rules};
 ghost use Rattle.version.specs.Reading.{verdict, comparison, precedence};
 ghost use Rattle.version.specs.Scan.{AfterMajor};
-ghost use Rattle.version.specs.Writing.{length-verdict, writing, exit-bytes};
+ghost use Rattle.version.specs.Writing.{version-text, too-large, writing, written-output};
+ghost use Rattle.octets.specs.Writing.{written};
 use octets::Decimal;
 use octets::Refusal;
+use octets::Written;
 
 // The longest header value, and the largest number in a version.
 const VALUE_LIMIT: usize = 8192;
@@ -39,11 +44,6 @@ pub enum Compared {
     Ordered(Order),
     FirstRefused(Refusal),
     SecondRefused(Refusal),
-}
-
-pub enum Written {
-    Length(usize),
-    Refused(Refusal),
 }
 
 impl Version {
@@ -88,6 +88,25 @@ impl Version {
         }
     }
 
+    // Writes the version at the front of `out`, in capitals and without leading zeros, and keeps the rest of `out`.
+    pub fn write(self, out: &mut [u8]) -> Written
+        ensures answers { λ r. ⌜ written r ≡ writing self (length (now (out .entry))) ⌝ }
+        ensures writes { λ _. ⌜ now (out .exit) ≡ written-output self (now (out .entry)) ⌝ }
+    {
+        if self.major as u64 > NUMBER_LIMIT {
+            return unwritten(9);
+        }
+        if self.minor as u64 > NUMBER_LIMIT {
+            return unwritten(9);
+        }
+        let len = text_len(self);
+        if out.len() < len {
+            return unwritten(8);
+        }
+        put_text(self, out);
+        Written::Length(len)
+    }
+
     // Reads the first, then the second, and compares them.
     pub fn compare_bytes(a: &[u8], b: &[u8]) -> Compared
         ensures { λ r. ⌜ comparison r ≡ comparing precedence (header rules (now (a .entry))) (header rules (now (b .entry))) ⌝ }
@@ -106,6 +125,31 @@ fn refused(number: u8, place: usize) -> Reading
     ensures { λ r. ⌜ r ≡ Reading.Refused (record { number = number; place = place }) ⌝ }
 {
     Reading::Refused(Refusal { number, place })
+}
+
+fn unwritten(number: u8) -> Written
+    ensures { λ r. ⌜ r ≡ Written.Refused (record { number = number; place = 0 }) ⌝ }
+{
+    Written::Refused(Refusal { number, place: 0 })
+}
+
+fn text_len(v: Version) -> usize
+    requires { ⌜ too-large v ≡ false ⌝ }
+    ensures { λ r. ⌜ r ≡ length (version-text v) ⌝ }
+{
+    let major = numerals::decimal_width(v.major as u64);
+    let minor = numerals::decimal_width(v.minor as u64);
+    NAME_LEN + major + 1 + minor
+}
+
+fn put_text(v: Version, out: &mut [u8])
+    requires { ⌜ length (version-text v) ≤ length (now out) ⌝ }
+    ensures { λ _. ⌜ now (out .exit) ≡ version-text v ++ drop (length (version-text v)) (now (out .entry)) ⌝ }
+{
+    let a = text::put_bytes(b"HTTP/", out, 0);
+    let b = text::put_decimal(v.major as u64, out, a);
+    let c = text::put_bytes(b".", out, b);
+    text::put_decimal(v.minor as u64, out, c);
 }
 
 // Reads on from the place behind the major number.

@@ -1,0 +1,159 @@
+-- A loop that copies a run of bytes, and bytes that are put one behind the other.
+use mathlib.Core.Path.{_≡_, refl, sym, _∙_, ap, ap₂, subst}
+use mathlib.Core.List.{List, [], _∷_, _++_, append-assoc, append-nil}
+use Prim.Native.Nat.{ℕ, suc, _+_, _-_, _<_, _≤_}
+use native.Mathlib.Numerals.{add-one}
+use native.Mathlib.Omega.{arith}
+use lib.Dec.{leb}
+use lib.ListN.{length, getD, take, drop, set, length-append, length-drop, drop-of-length-le, take-append-drop}
+use lib.Seq.{take-suc, take-at, take-all, take-append-le, take-take, drop-cons, drop-drop, drop-append-add, set-at, length-take-le}
+use borrow.Author.Tests.{le-leb, lt-leb, leb-true, leb-false}
+use Rattle.numerals.specs.Numeral as Numeral
+use Rattle.numerals.proofs.Digits.{split, at-true, at-false, put-fits, put-short}
+use Rattle.text.specs.Placing.{fits, placed, behind}
+
+-- the first k bytes are copied
+pub record Front (old src new : List ℕ) (k : ℕ) : Type 0 where
+  pub is : new ≡ take k src ++ drop k old
+  pub within : k ≤ length src
+
+module _ (old src new : List ℕ) (k : ℕ) (even : length old ≡ length src) (h : Front old src new k) where
+  pub front-length : length new ≡ length old
+  front-length = omega (arith, h .within, even, ap length (h .is), length-append (take k src) (drop k old), length-take-le k src (h .within), length-drop k old)
+
+  pub front-on : k < length src → Front old src (set new k (getD src k 0)) (k + 1)
+  front-on lt = record {
+    is = ap (λ (z : List ℕ). set z k (getD src k 0)) (h .is ∙ ap (λ (z : List ℕ). take k src ++ z) (drop-cons old k 0 (omega arith)))
+        ∙ set-at (take k src) (getD old k 0) (drop (suc k) old) (getD src k 0) k (length-take-le k src (h .within))
+        ∙ sym (append-assoc (take k src) (getD src k 0 ∷ []) (drop (suc k) old))
+        ∙ ap (λ (z : List ℕ). z ++ drop (suc k) old) (sym (take-suc src k 0 lt))
+        ∙ ap (λ (n : ℕ). take n src ++ drop n old) (sym (add-one k));
+    within = omega arith;
+  }
+
+  pub front-all : length src ≤ k → new ≡ src
+  front-all ge =
+      h .is ∙ ap₂ (λ (y z : List ℕ). y ++ z) (take-all k src ge) (drop-of-length-le old {i = k} (omega arith)) ∙ append-nil src
+
+-- ## Bytes at a place
+module _ (old : List ℕ) (at : ℕ) (xs : List ℕ) where
+  pub placed-fits : at + length xs ≤ length old → placed old at xs ≡ take at old ++ (xs ++ drop (at + length xs) old)
+  unfolding placed
+  placed-fits h = at-true (leb (at + length xs) (length old)) (take at old ++ (xs ++ drop (at + length xs) old)) old (le-leb (at + length xs) (length old) h)
+
+  pub placed-short : length old < at + length xs → placed old at xs ≡ old
+  unfolding placed
+  placed-short h = at-false (leb (at + length xs) (length old)) (take at old ++ (xs ++ drop (at + length xs) old)) old (lt-leb (at + length xs) (length old) h)
+
+  pub behind-fits : at + length xs ≤ length old → behind old at xs ≡ at + length xs
+  unfolding behind
+  behind-fits h = at-true (leb (at + length xs) (length old)) (at + length xs) at (le-leb (at + length xs) (length old) h)
+
+  pub behind-short : length old < at + length xs → behind old at xs ≡ at
+  unfolding behind
+  behind-short h = at-false (leb (at + length xs) (length old)) (at + length xs) at (lt-leb (at + length xs) (length old) h)
+
+  pub placed-length : length (placed old at xs) ≡ length old
+  placed-length = split (leb (at + length xs) (length old))
+      (λ e. let h : at + length xs ≤ length old = leb-true (at + length xs) (length old) e in
+      ap length (placed-fits h)
+      ∙ omega (
+        arith,
+        length-append (take at old) (xs ++ drop (at + length xs) old),
+        length-append xs (drop (at + length xs) old),
+        length-take-le at old (omega arith),
+        length-drop (at + length xs) old,
+      ))
+      (λ e. ap length (placed-short (leb-false (at + length xs) (length old) e)))
+
+  -- what has to be shown where xs does not fit
+  pub puts-nothing : length old < at + length xs → (at ≡ behind old at xs) × (old ≡ placed old at xs)
+  puts-nothing h = (sym (behind-short h), sym (placed-short h))
+
+  -- and where it does: a part was lent, and came back as xs
+  pub puts-part : (part : List ℕ) (e : ℕ) → at + length xs ≤ length old → e ≡ at + length xs → part ≡ xs
+      → (e ≡ behind old at xs) × (take at old ++ (part ++ drop (e - at) (drop at old)) ≡ placed old at xs)
+  puts-part part e h n p =
+      let k : at + (e - at) ≡ at + length xs = omega arith in (
+        n ∙ sym (behind-fits h),
+        ap₂ (λ (y z : List ℕ). take at old ++ (y ++ z)) p (drop-drop (e - at) at old ∙ ap (λ (i : ℕ). drop i old) k) ∙ sym (placed-fits h),
+      )
+
+-- what is put behind what was put is put together with it
+pub placed-placed : (old : List ℕ) (at : ℕ) (xs : List ℕ) (p : ℕ) (ys : List ℕ) → at + (length xs + length ys) ≤ length old → p ≡ at + length xs
+    → placed (placed old at xs) p ys ≡ placed old at (xs ++ ys)
+placed-placed old at xs p ys h e =
+    let n : length (placed old at xs) ≡ length old = placed-length old at xs in
+    let both : at + length xs + length ys ≡ at + length (xs ++ ys) = omega (arith, length-append xs ys) in
+    placed-fits (placed old at xs) p ys (omega arith)
+    ∙ ap (λ (z : List ℕ). take p z ++ (ys ++ drop (p + length ys) z)) (placed-fits old at xs (omega arith) ∙ sym (append-assoc (take at old) xs rest))
+    ∙ ap₂ (λ (y z : List ℕ). y ++ (ys ++ z)) (take-at begun rest p reach)
+    (ap (λ (i : ℕ). drop (i + length ys) (begun ++ rest)) (sym reach) ∙ drop-append-add begun rest (length ys) ∙ drop-drop (length ys) (at + length xs) old)
+    ∙ append-assoc (take at old) xs (ys ++ drop (at + length xs + length ys) old)
+    ∙ ap (λ (z : List ℕ). take at old ++ z) (sym (append-assoc xs ys (drop (at + length xs + length ys) old)))
+    ∙ ap (λ (i : ℕ). take at old ++ ((xs ++ ys) ++ drop i old)) both
+    ∙ sym (placed-fits old at (xs ++ ys) (omega (arith, length-append xs ys)))
+  where
+    rest : List ℕ
+    rest = drop (at + length xs) old
+
+    begun : List ℕ
+    begun = take at old ++ xs
+
+    reach : length begun ≡ p
+    reach = omega (arith, length-append (take at old) xs, length-take-le at old (omega arith))
+
+-- a number put at the front of the part from `at` on
+pub puts-front : (old part : List ℕ) (at : ℕ) (xs : List ℕ) → at ≤ length old → part ≡ Numeral.put xs (take (length old - at) (drop at old))
+    → take at old ++ (part ++ drop (length old - at) (drop at old)) ≡ placed old at xs
+puts-front old part at xs h e = ap₂ (λ (y z : List ℕ). take at old ++ (y ++ z)) (e ∙ ap (Numeral.put xs) all) none
+    ∙ ap (λ (z : List ℕ). take at old ++ z) (append-nil (Numeral.put xs (drop at old)))
+    ∙ split (leb (at + length xs) (length old))
+    (λ t. let k : at + length xs ≤ length old = leb-true (at + length xs) (length old) t in
+    ap (λ (z : List ℕ). take at old ++ z)
+    (put-fits xs (drop at old) (omega (arith, length-drop at old)) ∙ ap (λ (z : List ℕ). xs ++ z) (drop-drop (length xs) at old)) ∙ sym (placed-fits old at xs k))
+    (λ t. let k : length old < at + length xs = leb-false (at + length xs) (length old) t in
+    ap (λ (z : List ℕ). take at old ++ z) (put-short xs (drop at old) (omega (arith, length-drop at old))) ∙ take-append-drop at old ∙ sym (placed-short old at xs k))
+  where
+    all : take (length old - at) (drop at old) ≡ drop at old
+    all = take-all (length old - at) (drop at old) (omega (arith, length-drop at old))
+
+    none : drop (length old - at) (drop at old) ≡ []
+    none = drop-of-length-le (drop at old) {i = length old - at} (omega (arith, length-drop at old))
+
+-- ## Several, one behind the other
+-- xs is put at `at`, all in all, and p is behind it
+pub record Put (old : List ℕ) (at : ℕ) (xs new : List ℕ) (p : ℕ) : Type 0 where
+  pub fits : at + length xs ≤ length old
+  pub is : new ≡ placed old at xs
+  pub ends : p ≡ at + length xs
+
+pub put-none : (old : List ℕ) (at : ℕ) → at ≤ length old → Put old at [] old at
+put-none old at h = record {
+  fits = omega arith;
+  is = sym (placed-fits old at [] (omega arith) ∙ ap (λ (i : ℕ). take at old ++ drop i old) nought ∙ take-append-drop at old);
+  ends = sym nought;
+}
+  where
+    nought : at + 0 ≡ at
+    nought = omega arith
+
+pub put-then : (old : List ℕ) (at : ℕ) (xs new : List ℕ) (p : ℕ) (ys new′ : List ℕ) (p′ : ℕ) → Put old at xs new p
+    → at + (length xs + length ys) ≤ length old → p′ ≡ behind new p ys → new′ ≡ placed new p ys → Put old at (xs ++ ys) new′ p′
+put-then old at xs new p ys new′ p′ h l e w =
+    let n : length (xs ++ ys) ≡ length xs + length ys = length-append xs ys in
+    let k : length new ≡ length old = ap length (h .is) ∙ placed-length old at xs in
+    record {
+      fits = omega arith;
+      is = w ∙ ap (λ (z : List ℕ). placed z p ys) (h .is) ∙ placed-placed old at xs p ys l (h .ends);
+      ends = e ∙ behind-fits new p ys (omega (arith, h .ends)) ∙ omega (arith, h .ends);
+    }
+
+-- what a number put there has to show, where it fits and where it does not
+module _ (old part : List ℕ) (at k : ℕ) (xs : List ℕ) (h : at ≤ length old) (n : k ≡ length xs)
+    (e : part ≡ Numeral.put xs (take (length old - at) (drop at old))) where
+  pub number-short : length old - at < k → (at ≡ behind old at xs) × (take at old ++ (part ++ drop (length old - at) (drop at old)) ≡ placed old at xs)
+  number-short l = (sym (behind-short old at xs (omega arith)), puts-front old part at xs h e)
+
+  pub number-fits : k ≤ length old - at → (at + k ≡ behind old at xs) × (take at old ++ (part ++ drop (length old - at) (drop at old)) ≡ placed old at xs)
+  number-fits l = (ap (λ (i : ℕ). at + i) n ∙ sym (behind-fits old at xs (omega arith)), puts-front old part at xs h e)

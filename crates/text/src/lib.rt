@@ -1,0 +1,62 @@
+// Bytes and numbers put at a place of lent output.
+ghost use mathlib.Core.Path.{_≡_};
+ghost use lib.ListN.{length};
+ghost use Rattle.numerals.specs.Numeral.{numeral};
+ghost use Rattle.text.specs.Placing.{placed, behind};
+
+// Each of these puts bytes at `at` where they fit, keeps the rest of `out`, and gives the place behind them. Where they do not fit,
+// `out` stays as it was, and the place is `at`.
+
+pub fn put_bytes(src: &[u8], out: &mut [u8], at: usize) -> usize
+    ensures ends { λ r. ⌜ r ≡ behind (now (out .entry)) at (now (src .entry)) ⌝ }
+    ensures writes { λ _. ⌜ now (out .exit) ≡ placed (now (out .entry)) at (now (src .entry)) ⌝ }
+{
+    if at > out.len() {
+        return at;
+    }
+    if src.len() > out.len() - at {
+        return at;
+    }
+    let e = at + src.len();
+    copy(src, &mut out[at..e]);
+    e
+}
+
+pub fn put_decimal(n: u64, out: &mut [u8], at: usize) -> usize
+    ensures ends { λ r. ⌜ r ≡ behind (now (out .entry)) at (numeral 10 n) ⌝ }
+    ensures writes { λ _. ⌜ now (out .exit) ≡ placed (now (out .entry)) at (numeral 10 n) ⌝ }
+{
+    if at > out.len() {
+        return at;
+    }
+    let k = numerals::put_decimal(n, &mut out[at..]);
+    if k > out.len() - at {
+        return at;
+    }
+    at + k
+}
+
+pub fn put_hex(n: u64, out: &mut [u8], at: usize) -> usize
+    ensures ends { λ r. ⌜ r ≡ behind (now (out .entry)) at (numeral 16 n) ⌝ }
+    ensures writes { λ _. ⌜ now (out .exit) ≡ placed (now (out .entry)) at (numeral 16 n) ⌝ }
+{
+    if at > out.len() {
+        return at;
+    }
+    let k = numerals::put_hex(n, &mut out[at..]);
+    if k > out.len() - at {
+        return at;
+    }
+    at + k
+}
+
+fn copy(src: &[u8], dst: &mut [u8])
+    requires { ⌜ length (now dst) ≡ length (now src) ⌝ }
+    ensures { λ _. ⌜ now (dst .exit) ≡ now (src .entry) ⌝ }
+{
+    let mut i = 0;
+    while i < src.len() {
+        dst[i] = src[i];
+        i += 1;
+    }
+}

@@ -1,0 +1,52 @@
+-- `version::Version::write` meets its contract.
+use native.Mathlib.Omega.{arith}
+use borrow.Author.Needs.{needs}
+use Rattle.version.proofs.Write.{both-within, refuses-major, refuses-minor, refuses-short, writes}
+use Rattle.version.proofs.Version.write.Statement.{statement}
+use Rattle.version.proofs.Version.write.Tie as tie
+
+returns : tie.Need-returns
+returns c =
+    let x = c .before .before .before .before .args in
+    refuses-major (x .self) (x .out .now) (c .unwritten .result) (c .unwritten .ensures) (c .before .if1 .taken)
+
+returns-2 : tie.Need-returns-2
+returns-2 c =
+    let x = c .before .before .before .before .before .before .args in
+    refuses-minor (x .self) (x .out .now) (c .unwritten2 .result) (c .unwritten2 .ensures) (c .before .if2 .taken)
+
+text-len-requires : tie.Need-text-len-requires
+text-len-requires c κs =
+    let x = c .before .before .before .before .before .args in
+    both-within (x .self) (c .before .before .if1 .left) (c .if2 .left)
+
+returns-3 : tie.Need-returns-3
+returns-3 c =
+    let x = c .before .before .before .before .before .before .before .before .args in
+    refuses-short (x .self) (x .out .now) (c .unwritten3 .result) (c .unwritten3 .ensures)
+    (both-within (x .self) (c .before .before .before .before .before .if1 .left) (c .before .before .before .if2 .left))
+    (omega (arith, c .before .before .text-len .ensures, c .before .if3 .taken))
+
+returns-4 : tie.Need-returns-4
+returns-4 c =
+    let x = c .before .before .before .before .before .before .before .before .before .before .before .args in
+    let n = c .before .before .before .before .before .text-len in
+    let t = both-within (x .self) (c .before .before .before .before .before .before .before .before .if1 .left) (c .before .before .before .before .before .before .if2 .left) in
+    writes (x .self) (x .out .now) (n .result) (c .before .before .put-text .last .1 .0) (n .ensures) t (omega (arith, n .ensures, c .before .before .before .before .if3 .left)) (c .before .before .put-text .ensures)
+
+pub write-spec : {M : Type 1} → statement M
+write-spec =
+    tie.close
+    (tie.spec
+    (λ c. search needs)
+    (λ c κs. search needs)
+    returns
+    (λ c. search needs)
+    (λ c κs. search needs)
+    returns-2
+    text-len-requires
+    (λ c κs. search needs)
+    returns-3
+    (λ c κs. search needs)
+    (λ c. search needs)
+    returns-4)

@@ -1,0 +1,40 @@
+-- `version::text_len` meets its contract.
+use native.Mathlib.Omega.{arith}
+use borrow.Author.Needs.{needs}
+use Rattle.version.proofs.Write.{text-length, few-digits, within-both}
+use Rattle.version.proofs.text_len.Statement.{statement}
+use Rattle.version.proofs.text_len.Tie as tie
+
+add-result : tie.Need-add-result
+add-result c =
+    let z = c .before .before .before .before in
+    let w = within-both (z .args .v) (z .pre) in
+    omega (arith, few-digits (z .args .v .major) (w .0), c .before .before .decimal-width .ensures)
+
+add-result-2 : tie.Need-add-result-2
+add-result-2 c =
+    let z = c .before .before .before .before in
+    let w = within-both (z .args .v) (z .pre) in
+    omega (arith, few-digits (z .args .v .major) (w .0), c .before .before .decimal-width .ensures)
+
+add-result-3 : tie.Need-add-result-3
+add-result-3 c =
+    let z = c .before .before .before .before in
+    let w = within-both (z .args .v) (z .pre) in
+    omega (arith, few-digits (z .args .v .major) (w .0), c .before .before .decimal-width .ensures, few-digits (z .args .v .minor) (w .1), c .decimal-width2 .ensures)
+
+returns : tie.Need-returns
+returns c = omega (arith, text-length (c .before .before .before .before .args .v), c .before .before .decimal-width .ensures, c .decimal-width2 .ensures)
+
+pub text-len-spec : {M : Type 1} → statement M
+text-len-spec =
+    tie.close
+    (tie.spec
+    (λ c. search needs)
+    (λ c κs. search needs)
+    (λ c. search needs)
+    (λ c κs. search needs)
+    add-result
+    add-result-2
+    add-result-3
+    returns)
