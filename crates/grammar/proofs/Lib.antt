@@ -9,3 +9,5 @@ pub mod Ahead
 pub mod Slices
 pub mod Loop
 pub mod Scans
+pub mod Reach
+pub mod Demands

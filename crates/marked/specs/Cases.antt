@@ -1,0 +1,32 @@
+-- The marked cases of document 01, "Both sides of the line": what each says of the definitions, and the table of them.
+use Prim.Native.Nat.{ℕ}
+use Prim.Native.String.{String}
+use mathlib.Core.Path.{_≡_}
+use mathlib.Core.List.{List, [], _∷_}
+use Rattle.grammar.specs.Comparing.{outcome, compare}
+use Rattle.grammar.specs.Reading.{Verdict, value}
+use Rattle.grammar.specs.Judge.{header}
+use Rattle.version.specs.declared.Version.{Version}
+use Rattle.version.specs.declared.Order.the-variants.{Less}
+use Rattle.version.specs.Grammar as VersionGrammar
+use Rattle.version.specs.Reading.{precedence}
+use Rattle.marked.specs.Text.{bytes}
+
+pub data Case : Type 0 where
+  version-is : (text : String) (major minor : ℕ) → Case
+  version-below : (text other : String) → Case
+
+abbrev pub Holds : Case → Type 0
+Holds (version-is t m n) = header VersionGrammar.rules (bytes t) ≡ value (record { major = m; minor = n })
+Holds (version-below t u) = compare precedence (header VersionGrammar.rules (bytes t)) (header VersionGrammar.rules (bytes u)) ≡ outcome Less
+
+abbrev pub All : List Case → Type 0
+All [] = Unit {0}
+All (c ∷ cs) = Holds c × All cs
+
+abbrev pub table : List Case
+table =
+    version-below "HTTP/2.4" "HTTP/2.13"
+    ∷ version-below "HTTP/2.13" "HTTP/12.3"
+    ∷ version-is "HTTP/01.1" 1 1
+    ∷ []

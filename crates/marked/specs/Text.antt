@@ -1,0 +1,10 @@
+-- Byte strings written as text.
+use Prim.Native.Nat.{ℕ}
+use Prim.Native.Char.{Char, code}
+use Prim.Native.String.{String, [] as ε, _∷_ as _◁_}
+use mathlib.Core.List.{List, [], _∷_}
+
+-- the bytes of a text of ASCII characters
+abbrev pub bytes : String → List ℕ
+bytes ε = []
+bytes (c ◁ s) = code c ∷ bytes s

@@ -1,0 +1,1 @@
+// Theory only: the marked cases of document 01, as one table with one statement.

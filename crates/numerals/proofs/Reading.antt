@@ -1,0 +1,74 @@
+-- Decimal numerals read back: where one stands in a text, reading the digits there gives its number.
+use Prim.Native.Nat.{ℕ, zero, suc, _+_, _-_, _*_, _≤_, _<_}
+use native.Mathlib.Omega.{arith}
+use borrow.Author.Tests.{le-ltb, le-leb, lt-leb, leb-true, ne-eqb}
+use mathlib.Core.Path.{_≡_, refl, sym, ap, _∙_}
+use mathlib.Core.Bool.{Bool, true, false, cond, _&&_, true≢false}
+use mathlib.Core.List.{List, [], _∷_, _++_, append-nil}
+use mathlib.Core.Option.{Option, none}
+use lib.Dec.{ltb, leb}
+use lib.ListN.{length, drop}
+use lib.Seq.{drop-at}
+use Rattle.octets.specs.declared.Decimal.the-variants.{Number}
+use Rattle.octets.specs.Bytes.{digit?, hex-value}
+use Rattle.octets.specs.Runs.{run}
+use Rattle.octets.specs.Numbers.{grow, digits, number, passing, number-from, decimal-of, decimal-at}
+use Rattle.octets.proofs.Bytes.{digit-low, digit-high}
+use Rattle.octets.proofs.Spans.{span}
+use Rattle.numerals.specs.Numeral.{glyph, numeral, value-from, every}
+use Rattle.numerals.proofs.Demands.{digits-only, some-digit, value}
+use Rattle.numerals.proofs.Digits.{glyph-below}
+
+both : (x y : Bool) → (x && y) ≡ true → (x ≡ true) × (y ≡ true)
+both true y e = (refl, e)
+both false y e = absurd (true≢false (sym e))
+
+-- a decimal digit is worth the same read as a hex digit
+digit-value : (b : ℕ) → digit? b ≡ true → hex-value b ≡ b - 48
+digit-value b d = rw (le-leb b 57 (digit-high b d))
+
+number-value : (n : ℕ) (t : List ℕ) → every digit? t ≡ true → digits n t ≡ value-from 10 n t
+number-value n [] e = refl
+number-value n (b ∷ t) e =
+    let w = both (digit? b) (every digit? t) e in
+    number-value (grow n b) t (w .1) ∙ ap (λ (d : ℕ). value-from 10 (n * 10 + d) t) (sym (digit-value b (w .0)))
+
+-- digits only make a number larger
+digits-grow : (n : ℕ) (t : List ℕ) → n ≤ digits n t
+digits-grow n [] = omega arith
+digits-grow n (b ∷ t) = omega (arith, digits-grow (grow n b) t)
+
+none-passes : (limit n : ℕ) (t : List ℕ) → digits n t ≤ limit → passing limit n t ≡ none
+none-passes limit n [] h = refl
+none-passes limit n (b ∷ t) h =
+    rw (le-ltb limit (grow n b) (omega (arith, digits-grow (grow n b) t)), none-passes limit (grow n b) t h)
+
+-- what stands behind is no digit, or nothing
+pub data Stops : List ℕ → Type 0 where
+  end : Stops []
+  other : {b : ℕ} {t : List ℕ} → digit? b ≡ false → Stops (b ∷ t)
+
+run-all : (t rest : List ℕ) → every digit? t ≡ true → Stops rest → run digit? (t ++ rest) ≡ t
+run-all [] rest e end = refl
+run-all [] rest e (other {b} {t} f) = rw f
+run-all (b ∷ t) rest e s =
+    let w = both (digit? b) (every digit? t) e in
+    rw (w .0) (ap (λ (l : List ℕ). b ∷ l) (run-all t rest (w .1) s))
+
+decimal-digit : (d : ℕ) → d < 10 → digit? (glyph d) ≡ true
+unfolding digit?
+decimal-digit d h = ap digit? (glyph-below d h) ∙ rw (le-leb 48 (48 + d) (omega arith), le-leb (48 + d) 57 (omega arith))
+
+decimal-digits : (n : ℕ) → every digit? (numeral 10 n) ≡ true
+decimal-digits n = digits-only digit? 10 n (omega arith) decimal-digit
+
+numeral-number : (n : ℕ) → number (numeral 10 n) ≡ n
+numeral-number n = number-value 0 (numeral 10 n) (decimal-digits n) ∙ value 10 n (omega arith) (omega arith)
+
+pub numeral-reads : (front rest : List ℕ) (n limit : ℕ) → n ≤ limit → Stops rest
+    → decimal-at limit (front ++ (numeral 10 n ++ rest)) (length front) ≡ Number n (length front + length (numeral 10 n))
+unfolding decimal-at
+numeral-reads front rest n limit h s =
+    ap (λ (t : List ℕ). decimal-of (passing limit 0 (run digit? t)) (length front) (run digit? t)) (drop-at front (numeral 10 n ++ rest) (length front) refl)
+    ∙ ap (λ (t : List ℕ). decimal-of (passing limit 0 t) (length front) t) (run-all (numeral 10 n) rest (decimal-digits n) s)
+    ∙ rw (none-passes limit 0 (numeral 10 n) (omega (arith, numeral-number n)), ne-eqb (length front + length (numeral 10 n)) (length front) (λ e. omega (arith, some-digit 10 n (omega arith))), numeral-number n)
