@@ -11,3 +11,5 @@ pub mod Loop
 pub mod Scans
 pub mod Reach
 pub mod Demands
+pub mod Nested
+pub mod Skips

@@ -51,12 +51,12 @@ module _ {L : Type 0} where
   during-alone p (nest o c k m g r n) = refl
 
   -- `then x g` is `x ⨾ g` but where g is void or empty
-  data Follows (g : Grammar L) : Type 0 where
+  pub data Follows (g : Grammar L) : Type 0 where
     nothing : g ≡ void → Follows g
     blank : g ≡ empty → Follows g
     solid : ((x : Grammar L) → then x g ≡ x ⨾ g) → Follows g
 
-  follows : (g : Grammar L) → Follows g
+  pub follows : (g : Grammar L) → Follows g
   follows void = nothing refl
   follows empty = blank refl
   follows (byte c) = solid (λ x. refl)
@@ -67,7 +67,7 @@ module _ {L : Type 0} where
   follows (rest c g) = solid (λ x. refl)
   follows (nest o c k m g r n) = solid (λ x. refl)
 
-  dead-live : {A : Type 0} (g : Grammar L) → g ≡ void → live g ≡ true → A
+  pub dead-live : {A : Type 0} (g : Grammar L) → g ≡ void → live g ≡ true → A
   dead-live g e l = absurd (true≢false (sym l ∙ ap live e))
 
   pub then-live : (x g : Grammar L) → live g ≡ true → live (then x g) ≡ live x
@@ -199,7 +199,7 @@ module _ {L A : Type 0} (r : Rules L A) (s : List ℕ) where
   same-end : (g h : Grammar L) (i : ℕ) → length s ≤ i → nullable g ≡ nullable h → ends g i ≡ ends h i → from r s g i ≡ from r s h i
   same-end g h i at n e = rw (drop-of-length-le s at, n, e)
 
-  same-judge : (cs : List (Part L)) (g h : Grammar L) (i : ℕ) → (i < length s → deriv g i (getD s i 0) ≡ deriv h i (getD s i 0))
+  pub same-judge : (cs : List (Part L)) (g h : Grammar L) (i : ℕ) → (i < length s → deriv g i (getD s i 0) ≡ deriv h i (getD s i 0))
       → nullable g ≡ nullable h → ends g i ≡ ends h i → from r s (ahead cs g) i ≡ from r s (ahead cs h) i
   same-judge cs g h i d n e = go (ltb i (length s)) refl
     where
