@@ -1,0 +1,68 @@
+-- What the writer's frame is, over the grammar of chunked bodies, and that it reads back. The words quoted are those of document 01.
+use mathlib.Core.Path.{_≡_, refl, sym, _∙_, ap, subst}
+use mathlib.Core.List.{List, [], _∷_, _++_}
+use mathlib.Core.Logic.{_↔_}
+use Prim.Native.Nat.{ℕ, suc, _+_, _^_, _<_, _≤_}
+use native.Mathlib.Omega.{arith}
+use lib.ListN.{length, getD, take, drop}
+use lib.Seq.{take-length}
+use Rattle.octets.specs.Bytes.{octet?}
+use Rattle.numerals.specs.Numeral.{glyph, digits, width-in, width, numeral}
+use Rattle.numerals.proofs.Demands as Numerals
+use Rattle.framing.specs.Grammar.{Many, Size, Body, Broken}
+use Rattle.framing.specs.Answer.{whole}
+use Rattle.framing.specs.Demand.{BeginsWhole}
+use Rattle.framing.specs.Reading.{decode, decoded}
+use Rattle.framing.proofs.Demands as Framing
+use Rattle.chunk_writer.specs.Writing.{BODY_LIMIT, chunk, end, framed, joined, cut-in, cut, frame}
+use Rattle.chunk_writer.proofs.Cuts as Cuts
+use Rattle.chunk_writer.proofs.Bodies.{Pieces, size-is, framed-body, pieces-of, joined-cut}
+use Rattle.chunk_writer.proofs.ReadsBack.{reads-framed}
+
+-- ## Sizes
+-- "sizes in capitals without leading zeros": digits of the grammar with that value
+pub size : (n : ℕ) → Size (numeral 16 n) n
+size = size-is
+
+-- the first of them is `0` only where the size is 0
+pub no-leading-zero : (n : ℕ) → getD (numeral 16 n) 0 0 ≡ 48 → n ≡ 0
+no-leading-zero n = Numerals.first-digit 16 n (omega arith) (omega arith)
+
+-- ## Cuts
+-- "cuts off full chunks, then what remains": where n bytes or more are left, the first n of them are a chunk; fewer are one chunk, or none
+pub cuts : (n : ℕ) (xs : List ℕ) → 0 < n → 0 < length xs → frame xs n ≡ chunk (take n xs) ++ frame (drop n xs) n
+cuts = Cuts.frame-some
+
+pub ends : (n : ℕ) → frame [] n ≡ end
+ends = Cuts.frame-none
+
+-- ## Frames
+-- the frame of a body of bytes is a chunked body, and its joined data is that body
+pub frames : (body : List ℕ) (n : ℕ) → Many octet? body → 0 < n → Body (frame body n) body
+unfolding frame
+frames body n m p = subst (Body (framed (cut n body))) (joined-cut n body p) (framed-body (cut n body) (pieces-of n body p m))
+
+-- it reads back, in every room that holds the body, at every chunk length that the writer accepts: whole, all of it taken, the body's length
+pub reads-back : (r : ℕ) (body : List ℕ) (n : ℕ) → Many octet? body → 0 < n → length body ≤ BODY_LIMIT → length body ≤ r
+    → decode r (frame body n) ≡ whole (length (frame body n)) (length body)
+unfolding frame
+reads-back r body n m p small l =
+    let j : joined (cut n body) ≡ body = joined-cut n body p in
+    let k : length (joined (cut n body)) ≡ length body = ap length j in
+    reads-framed r (cut n body) (pieces-of n body p m) (omega arith) (omega arith) ∙ ap (whole (length (framed (cut n body)))) k
+
+-- and what is written then is the body
+pub writes-back : (r : ℕ) (body : List ℕ) (n : ℕ) → Many octet? body → 0 < n → length body ≤ BODY_LIMIT → length body ≤ r
+    → decoded r (frame body n) ≡ body
+writes-back r body n m p small l =
+    let w : (d : List ℕ) × BeginsWhole Body (Broken r) (frame body n) (length (frame body n)) (length body) d
+    = Framing.whole r (frame body n) (length (frame body n)) (length body) .0 (reads-back r body n m p small l) in
+    Framing.demands .writes r (frame body n) (length (frame body n)) (length body) (w .0) (w .1)
+    ∙ Framing.one-reading (frame body n) (w .0) body
+    (subst (λ (z : List ℕ). Body z (w .0)) (take-length (frame body n)) (w .1 .body)) (frames body n m p)
+
+-- "`hello` at length 2 makes 25 bytes"
+pub hello : frame (104 ∷ 101 ∷ 108 ∷ 108 ∷ 111 ∷ []) 2
+    ≡ 50 ∷ 13 ∷ 10 ∷ 104 ∷ 101 ∷ 13 ∷ 10 ∷ 50 ∷ 13 ∷ 10 ∷ 108 ∷ 108 ∷ 13 ∷ 10 ∷ 49 ∷ 13 ∷ 10 ∷ 111 ∷ 13 ∷ 10 ∷ 48 ∷ 13 ∷ 10 ∷ 13 ∷ 10 ∷ []
+unfolding frame cut cut-in framed chunk numeral digits width width-in glyph
+hello = refl

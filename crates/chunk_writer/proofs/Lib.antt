@@ -1,0 +1,6 @@
+pub mod Cuts
+pub mod Puts
+pub mod Answers
+pub mod Bodies
+pub mod ReadsBack
+pub mod Demands

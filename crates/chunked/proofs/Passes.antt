@@ -1,0 +1,109 @@
+-- A pass over the input: from a place and a state to the next, or to the answer.
+use mathlib.Core.Path.{_≡_, refl, sym, _∙_, ap, subst}
+use mathlib.Core.List.{List, [], _∷_, _++_}
+use mathlib.Core.Option.{Option, none, some}
+use Prim.Native.Nat.{ℕ, zero, suc, _+_, _-_, _<_, _≤_}
+use native.Mathlib.Numerals.{add-one}
+use native.Mathlib.Omega.{arith}
+use lib.ListN.{length, getD, take, drop}
+use lib.Seq.{take-suc, take-take, length-take-le}
+use Rattle.framing.specs.Answer as Framing
+use Rattle.framing.specs.Grammar.{LINE_LIMIT}
+use Rattle.framing.specs.declared.State.{State}
+use Rattle.framing.specs.declared.LinePos.{LinePos}
+use Rattle.framing.specs.declared.LinePos.the-variants.{First}
+use Rattle.framing.specs.declared.State.the-variants.{Line, LineFeed, Data}
+use Rattle.framing.specs.Machine.{step, emit, live, done, over, lineLive, pastRoom, sizeOf, InRoom, start}
+use Rattle.framing.specs.Scan.{Verdict, ended, refusal, Found, going, stop, run, out, scan, answer, Quiet}
+use Rattle.framing.specs.Reading.{judge, decode}
+use Rattle.framing.proofs.Scanning.{run-append, Stops, quiet-on, quiet-going, stops-stop}
+use Rattle.framing.proofs.Judging.{quiet-in}
+use Rattle.chunked.specs.declared.Answer.{Answer}
+use Rattle.chunked.specs.declared.Answer.the-variants.{Whole, More, Refused}
+use Rattle.chunked.specs.Verdict.{verdict}
+use Rattle.chunked.specs.Passes.{At, Last}
+
+pub begins : (room : ℕ) → judge room start ≡ none
+unfolding judge live lineLive done over pastRoom
+begins room = refl
+
+module _ {room : ℕ} {xs : List ℕ} where
+  pub at-start : At room xs start 0
+  at-start = record { within = omega arith; quiet = first; reached = refl }
+    where
+      first : Quiet step (judge room) start xs 0
+      first zero l = begins room
+      first (suc i) l = absurd (omega arith)
+
+  module _ {s : State} {i : ℕ} (at : At room xs s i) where
+    pub at-fits : InRoom room s
+    unfolding judge
+    at-fits = subst (InRoom room) (at .reached) (quiet-in room (take i xs) short)
+      where
+        short : (k : ℕ) → k ≤ length (take i xs) → judge room (run step start (take k (take i xs))) ≡ none
+        short k l =
+            let h : k ≤ i = omega (arith, l, length-take-le i xs (at .within)) in
+            ap (λ (z : List ℕ). judge room (run step start z)) (take-take k i xs h) ∙ at .quiet k h
+
+    pub at-more : length xs ≤ i → Framing.more ≡ decode room xs
+    unfolding decode answer
+    at-more h =
+        let e : i ≡ length xs = omega (arith, at .within, h) in
+        sym (ap answer (quiet-going step (judge room) start xs (begins room) (subst (Quiet step (judge room) start xs) e (at .quiet))))
+
+    module _ (lt : i < length xs) where
+      onward : run step start (take (suc i) xs) ≡ step s (getD xs i 0)
+      onward =
+          ap (run step start) (take-suc xs i 0 lt)
+          ∙ run-append step start (take i xs) (getD xs i 0 ∷ [])
+          ∙ ap (λ (z : State). step z (getD xs i 0)) (at .reached)
+
+      module _ {n : State} (e : step s (getD xs i 0) ≡ n) where
+        pub at-next : judge room n ≡ none → At room xs n (i + 1)
+        at-next h = subst (At room xs n) (sym (add-one i)) (record {
+          within = lt;
+          quiet = quiet-on step (judge room) start xs i (at .quiet) (ap (judge room) (onward ∙ e) ∙ h);
+          reached = onward ∙ e;
+        })
+
+        at-stop : (v : Verdict) → judge room n ≡ some v → scan step (judge room) start 0 xs ≡ stop i v
+        at-stop v h = stops-stop step (judge room) start xs (begins room) i v
+            (record { inside = lt; quiet = at .quiet; verdict = ap (judge room) (onward ∙ e) ∙ h })
+
+        pub at-refuse : {m : ℕ} → judge room n ≡ some (refusal m) → Framing.refused m i ≡ decode room xs
+        unfolding decode answer
+        at-refuse {m} h = sym (ap answer (at-stop (refusal m) h))
+
+        pub at-end : {t : ℕ} → judge room n ≡ some (ended t) → Framing.whole (i + 1) t ≡ decode room xs
+        unfolding decode answer
+        at-end {t} h = ap (λ (k : ℕ). Framing.whole k t) (add-one i) ∙ sym (ap answer (at-stop (ended t) h))
+
+  pub line-fits : {p : LinePos} {k t i : ℕ} → At room xs (Line p k t) i → t + sizeOf p ≤ room
+  unfolding InRoom
+  line-fits at = at-fits at .1
+
+  pub line-short : {p : LinePos} {k t i : ℕ} → At room xs (Line p k t) i → k ≤ LINE_LIMIT
+  unfolding InRoom
+  line-short at = at-fits at .0
+
+  pub first-fits : {t i : ℕ} → At room xs (Line First 0 t) i → t ≤ room
+  unfolding sizeOf
+  first-fits at = omega (arith, line-fits at)
+
+  pub feed-fits : {v t i : ℕ} → At room xs (LineFeed v t) i → t + v ≤ room
+  unfolding InRoom
+  feed-fits at = at-fits at
+
+  pub data-fits : {m t i : ℕ} → At room xs (Data m t) i → t ≤ room
+  unfolding InRoom
+  data-fits at = at-fits at
+
+  -- ## Answers
+  pub last-more : {t : ℕ} → Framing.more ≡ decode room xs → Last room xs t More
+  last-more e = record { is = e; total = λ n k h. let z : _≡_ {A = ℕ} 0 1 = cc in absurd (omega arith) }
+
+  pub last-refused : {t : ℕ} {a : Answer} {m i : ℕ} → verdict a ≡ Framing.refused m i → Framing.refused m i ≡ decode room xs → Last room xs t a
+  last-refused f e = record { is = f ∙ e; total = λ n k h. let z : _≡_ {A = ℕ} 0 1 = cc in absurd (omega arith) }
+
+  pub last-whole : {t i : ℕ} → Framing.whole i t ≡ decode room xs → Last room xs t (Whole i t)
+  last-whole {t} {i} e = record { is = e; total = λ n k h. let z : Framing.whole i t ≡ Framing.whole n k = e ∙ h in cc }

@@ -1,0 +1,52 @@
+-- `chunked::again` meets its contract.
+use native.Mathlib.Omega.{arith}
+use borrow.Author.Needs.{needs}
+use borrow.Author.Tests.{not-false}
+use Rattle.framing.proofs.Cases.{false-true}
+use Rattle.chunked.proofs.Chunks.{same-chunk}
+use Rattle.chunked.proofs.again.Statement.{statement}
+use Rattle.chunked.proofs.again.Tie as tie
+
+returns : tie.Need-returns
+returns c = λ e. false-true e
+
+returns-2 : tie.Need-returns-2
+returns-2 c = λ e. false-true e
+
+add-n : tie.Need-add-n
+add-n c = omega arith
+
+returns-3 : tie.Need-returns-3
+returns-3 c = λ e. false-true e
+
+returns-4 : tie.Need-returns-4
+returns-4 c = λ e. false-true e
+
+returns-5 : tie.Need-returns-5
+returns-5 c = λ e. (
+  omega arith,
+  same-chunk (c .before .before .before .before .before .before .before .before .before .pre .1) (omega arith) (c .before .before .before .before .crlf-at .ensures (not-false _ (c .before .before .before .if4 .left))) (c .same .ensures e),
+)
+
+pub again-spec : {M : Type 1} → statement M
+again-spec =
+    tie.close
+    (tie.spec
+    returns
+    returns-2
+    add-n
+    (λ c. search needs)
+    returns-3
+    (λ c. search needs)
+    (λ c κs. search needs)
+    returns-4
+    (λ c. search needs)
+    (λ c. search needs)
+    (λ c. search needs)
+    (λ c. search needs)
+    (λ c. search needs)
+    (λ c. search needs)
+    (λ c. search needs)
+    (λ c. search needs)
+    (λ c κs. search needs)
+    returns-5)

@@ -1,0 +1,87 @@
+-- Where a pass over the input stands, and what its parts find. Definitions for the contracts of the helpers.
+use mathlib.Core.Path.{_≡_}
+use mathlib.Core.Bool.{false}
+use mathlib.Core.List.{List, [], _∷_, _++_}
+use Prim.Native.Nat.{ℕ, _+_, _-_, _<_, _≤_}
+use lib.ListN.{length, getD, take, drop}
+use Rattle.octets.specs.Bytes.{hex?}
+use Rattle.framing.specs.Answer.{whole}
+use Rattle.framing.specs.Grammar as G
+use Rattle.framing.specs.Grammar.{LINE_LIMIT}
+use Rattle.framing.specs.declared.LinePos.the-variants.{First, Size}
+use Rattle.framing.specs.declared.State.{State}
+use Rattle.framing.specs.declared.State.the-variants.{Line, Data}
+use Rattle.framing.specs.Machine.{lineStep, step, emit, start}
+use Rattle.framing.specs.Scan.{run, out, Quiet}
+use Rattle.framing.specs.Reading.{judge, decode}
+use Rattle.chunked.specs.Verdict.{verdict}
+use Rattle.chunked.specs.declared.Answer.{Answer}
+use Rattle.chunked.specs.declared.Sized.{Sized}
+use Rattle.chunked.specs.declared.Sized.the-variants as Sized
+use Rattle.chunked.specs.declared.Found.{Found}
+use Rattle.chunked.specs.declared.Found.the-variants as Found
+
+-- a pass stands at i: the bytes before led to the state s, with no verdict on the way
+pub record At (room : ℕ) (xs : List ℕ) (s : State) (i : ℕ) : Type 0 where
+  pub within : i ≤ length xs
+  pub quiet : Quiet step (judge room) start xs i
+  pub reached : run step start (take i xs) ≡ s
+
+-- the data of the first i bytes
+abbrev pub dataTo : List ℕ → ℕ → List ℕ
+dataTo xs i = out step emit start (take i xs)
+
+-- the second pass stands at i, before a chunk line, and has written the o bytes of data behind it
+pub record Copied (xs old new : List ℕ) (i o : ℕ) : Type 0 where
+  pub at : At (length old) xs (Line First 0 o) i
+  pub wrote : new ≡ dataTo xs i ++ drop o old
+
+-- the answer, where no data follows the t bytes so far
+pub record Last (room : ℕ) (xs : List ℕ) (t : ℕ) (a : Answer) : Type 0 where
+  pub is : verdict a ≡ decode room xs
+  pub total : (n k : ℕ) → decode room xs ≡ whole n k → k ≡ t
+
+-- ## Chunk lines
+
+-- the w bytes at i are a chunk line of the grammar, within its limit, that gives v, then z
+pub record LineAt (xs : List ℕ) (i w v : ℕ) (z : List ℕ) : Type 0 where
+  pub inside : i + w ≤ length xs
+  pub text : List ℕ
+  pub split : take w (drop i xs) ≡ text ++ z
+  pub line : G.Line text v
+  pub short : length text ≤ LINE_LIMIT
+
+-- the digits of the line at i, which has t bytes of data before it, have the value v and end at j, before another byte
+abbrev pub SizeRead : ℕ → List ℕ → ℕ → ℕ → Sized → Type 0
+SizeRead room xs i t (Sized.Digits v j) =
+    (i ≤ j) × (j < length xs) × At room xs (Line (Size v) (j - i) t) j × (hex? (getD xs j 0) ≡ false)
+    × (run lineStep First (take (j - i) (drop i xs)) ≡ Size v)
+SizeRead room xs i t (Sized.Over a) = Last room xs t a
+
+-- the line at i, which has t bytes of data before it, gives the size v, above zero, with the data at j
+abbrev pub LineRead : ℕ → List ℕ → ℕ → ℕ → Found → Type 0
+LineRead room xs i t (Found.Data v j) =
+    (0 < v) × (i ≤ j) × At room xs (Data (v - 1) (t + v)) j × LineAt xs i (j - i) v (13 ∷ 10 ∷ [])
+LineRead room xs i t (Found.Over a) = Last room xs t a
+
+-- where w is above zero: such a line of w bytes stands at p, with v bytes or more behind it
+pub record Known (xs : List ℕ) (p w v : ℕ) : Type 0 where
+  pub inside : p + w + v ≤ length xs
+  pub line : 0 < w → (0 < v) × LineAt xs p w v (13 ∷ 10 ∷ [])
+
+-- CR LF stand at i
+pub record CrlfAt (xs : List ℕ) (i : ℕ) : Type 0 where
+  pub inside : i + 2 ≤ length xs
+  pub cr : getD xs i 0 ≡ 13
+  pub lf : getD xs (i + 1) 0 ≡ 10
+
+-- a chunk stands at i: a line of w bytes that gives v, above zero, v bytes, CR LF
+pub record ChunkAt (xs : List ℕ) (i w v : ℕ) : Type 0 where
+  pub some : 0 < v
+  pub line : LineAt xs i w v (13 ∷ 10 ∷ [])
+  pub end : CrlfAt xs (i + (w + v))
+
+-- the chunk at i, which has t bytes of data before it, fits into the room; its data, v bytes, is at j
+abbrev pub ChunkRead : ℕ → List ℕ → ℕ → ℕ → Found → Type 0
+ChunkRead room xs i t (Found.Data v j) = (i ≤ j) × (t + v ≤ room) × ChunkAt xs i (j - i) v
+ChunkRead room xs i t (Found.Over a) = Last room xs t a

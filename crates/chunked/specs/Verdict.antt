@@ -1,0 +1,10 @@
+-- Document 01's number and values for each case of the answer.
+use Rattle.octets.specs.declared.Refusal.{Refusal}
+use Rattle.framing.specs.Answer as Framing
+use Rattle.chunked.specs.declared.Answer.{Answer}
+use Rattle.chunked.specs.declared.Answer.the-variants.{Whole, More, Refused}
+
+abbrev pub verdict : Answer → Framing.Answer
+verdict (Whole taken len) = Framing.whole taken len
+verdict More = Framing.more
+verdict (Refused r) = Framing.refused (r .number) (r .place)

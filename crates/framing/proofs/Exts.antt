@@ -1,0 +1,227 @@
+-- The machine for chunk extensions agrees with the grammar.
+use mathlib.Core.Path.{_≡_, refl, sym, _∙_, ap, subst}
+use mathlib.Core.Bool.{Bool, true, false, cond}
+use mathlib.Core.List.{List, [], _∷_, _++_, append-assoc, append-nil}
+use Prim.Native.Nat.{ℕ}
+use lib.Dec.{eqb}
+use borrow.Author.Tests.{eqb-true}
+use Rattle.framing.specs.declared.ExtPos.{ExtPos}
+use Rattle.framing.specs.declared.ExtPos.the-variants as ExtPos
+use Rattle.framing.specs.Grammar as G
+use Rattle.octets.specs.Bytes.{token?, text?, escaped?}
+use Rattle.framing.specs.Grammar.{Many, Some, Inside, Value, Extension, Extensions}
+use Rattle.framing.specs.Machine.{extStep, extEnds, extLive}
+use Rattle.framing.specs.Scan.{run}
+use Rattle.framing.proofs.Scanning.{run-append, run-step}
+use Rattle.framing.proofs.Cases.{false-true, by-cond}
+
+abbrev pub extRun : ExtPos → List ℕ → ExtPos
+extRun = run extStep
+
+-- ## From the machine to the grammar: what each position still waits for
+
+pub data Tail : List ℕ → Type 0 where
+  plain : {r : List ℕ} → Extensions r → Tail r
+  value : {v r : List ℕ} → Value v → Extensions r → Tail (61 ∷ (v ++ r))
+
+pub data Rest : ExtPos → List ℕ → Type 0 where
+  between : {r : List ℕ} → Extensions r → Rest ExtPos.Between r
+  name0 : {n r : List ℕ} → Some token? n → Tail r → Rest ExtPos.Name0 (n ++ r)
+  name : {n r : List ℕ} → Many token? n → Tail r → Rest ExtPos.Name (n ++ r)
+  value0 : {v r : List ℕ} → Value v → Extensions r → Rest ExtPos.Value0 (v ++ r)
+  token : {n r : List ℕ} → Many token? n → Extensions r → Rest ExtPos.Token (n ++ r)
+  quoted : {i r : List ℕ} → Inside i → Extensions r → Rest ExtPos.Quoted (i ++ (34 ∷ r))
+  pair : {b : ℕ} {i r : List ℕ} → escaped? b ≡ true → Inside i → Extensions r → Rest ExtPos.Pair (b ∷ (i ++ (34 ∷ r)))
+
+bad : {A : Type 0} {xs : List ℕ} → Rest ExtPos.Bad xs → A
+bad h = elim h [ ]
+
+from-name0 : {xs : List ℕ} → Rest ExtPos.Name0 xs → Extensions (59 ∷ xs)
+from-name0 (name0 {n = n} {r = r} t (plain e)) = G.more (G.bare t) e
+from-name0 (name0 {n = n} t (value {v = v} {r = r} w e)) =
+    subst Extensions (append-assoc (59 ∷ n) (61 ∷ v) r) (G.more (G.valued t w) e)
+
+to-name : {b : ℕ} {xs : List ℕ} → token? b ≡ true → Rest ExtPos.Name xs → Rest ExtPos.Name (b ∷ xs)
+to-name h (name m t) = name (G.more h m) t
+
+to-name0 : {b : ℕ} {xs : List ℕ} → token? b ≡ true → Rest ExtPos.Name xs → Rest ExtPos.Name0 (b ∷ xs)
+to-name0 h (name m t) = name0 (G.some h m) t
+
+tail-name : {xs : List ℕ} → Tail xs → Rest ExtPos.Name xs
+tail-name t = name G.none t
+
+from-value0 : {xs : List ℕ} → Rest ExtPos.Value0 xs → Tail (61 ∷ xs)
+from-value0 (value0 v e) = value v e
+
+to-token : {b : ℕ} {xs : List ℕ} → token? b ≡ true → Rest ExtPos.Token xs → Rest ExtPos.Token (b ∷ xs)
+to-token h (token m e) = token (G.more h m) e
+
+token-value0 : {b : ℕ} {xs : List ℕ} → token? b ≡ true → Rest ExtPos.Token xs → Rest ExtPos.Value0 (b ∷ xs)
+token-value0 h (token m e) = value0 (G.token (G.some h m)) e
+
+quoted-value0 : {xs : List ℕ} → Rest ExtPos.Quoted xs → Rest ExtPos.Value0 (34 ∷ xs)
+quoted-value0 (quoted {i = i} {r = r} w e) = subst (Rest ExtPos.Value0) (ap (λ (l : List ℕ). 34 ∷ l) (append-assoc i (34 ∷ []) r)) (value0 (G.quoted w) e)
+
+to-quoted : {b : ℕ} {xs : List ℕ} → text? b ≡ true → Rest ExtPos.Quoted xs → Rest ExtPos.Quoted (b ∷ xs)
+to-quoted h (quoted w e) = quoted (G.text h w) e
+
+pair-quoted : {xs : List ℕ} → Rest ExtPos.Pair xs → Rest ExtPos.Quoted (92 ∷ xs)
+pair-quoted (pair h w e) = quoted (G.pair h w) e
+
+quoted-pair : {b : ℕ} {xs : List ℕ} → escaped? b ≡ true → Rest ExtPos.Quoted xs → Rest ExtPos.Pair (b ∷ xs)
+quoted-pair h (quoted w e) = pair h w e
+
+pub from-between : {xs : List ℕ} → Rest ExtPos.Between xs → Extensions xs
+from-between (between e) = e
+
+-- ## a byte back
+pub back : (e : ExtPos) (b : ℕ) (xs : List ℕ) → Rest (extStep e b) xs → Rest e (b ∷ xs)
+unfolding extStep
+back ExtPos.Between b xs = by-cond (λ (e : ExtPos). Rest e xs) (eqb b 59)
+    (λ k h. rw (eqb-true b 59 k) (between (from-name0 h))) (λ k h. bad h)
+back ExtPos.Name0 b xs = by-cond (λ (e : ExtPos). Rest e xs) (token? b) to-name0 (λ k h. bad h)
+back ExtPos.Name b xs = by-cond (λ (e : ExtPos). Rest e xs) (token? b) to-name (λ _.
+    by-cond (λ (e : ExtPos). Rest e xs) (eqb b 61) (λ k h. rw (eqb-true b 61 k) (tail-name (from-value0 h))) (λ _.
+    by-cond (λ (e : ExtPos). Rest e xs) (eqb b 59) (λ k h. rw (eqb-true b 59 k) (tail-name (plain (from-name0 h)))) (λ k h. bad h)))
+back ExtPos.Value0 b xs = by-cond (λ (e : ExtPos). Rest e xs) (token? b) token-value0 (λ _.
+    by-cond (λ (e : ExtPos). Rest e xs) (eqb b 34) (λ k h. rw (eqb-true b 34 k) (quoted-value0 h)) (λ k h. bad h))
+back ExtPos.Token b xs = by-cond (λ (e : ExtPos). Rest e xs) (token? b) to-token (λ _.
+    by-cond (λ (e : ExtPos). Rest e xs) (eqb b 59) (λ k h. rw (eqb-true b 59 k) (token G.none (from-name0 h))) (λ k h. bad h))
+back ExtPos.Quoted b xs = by-cond (λ (e : ExtPos). Rest e xs) (text? b) to-quoted (λ _.
+    by-cond (λ (e : ExtPos). Rest e xs) (eqb b 92) (λ k h. rw (eqb-true b 92 k) (pair-quoted h)) (λ _.
+    by-cond (λ (e : ExtPos). Rest e xs) (eqb b 34) (λ k h. rw (eqb-true b 34 k) (quoted G.end (from-between h))) (λ k h. bad h)))
+back ExtPos.Pair b xs = by-cond (λ (e : ExtPos). Rest e xs) (escaped? b) quoted-pair (λ k h. bad h)
+back ExtPos.Bad b xs = λ h. bad h
+
+pub rest-nil : (e : ExtPos) → extEnds e ≡ true → Rest e []
+unfolding extEnds
+rest-nil ExtPos.Between h = between G.none
+rest-nil ExtPos.Name0 h = false-true h
+rest-nil ExtPos.Name h = name G.none (plain G.none)
+rest-nil ExtPos.Value0 h = false-true h
+rest-nil ExtPos.Token h = token G.none G.none
+rest-nil ExtPos.Quoted h = false-true h
+rest-nil ExtPos.Pair h = false-true h
+rest-nil ExtPos.Bad h = false-true h
+
+pub rest : (e : ExtPos) (xs : List ℕ) → extEnds (extRun e xs) ≡ true → Rest e xs
+rest e [] h = rest-nil e h
+rest e (b ∷ xs) h = back e b xs (rest (extStep e b) xs h)
+
+-- ## From the grammar to the machine
+
+ends-semicolon : (a : ExtPos) → extEnds a ≡ true → extStep a 59 ≡ ExtPos.Name0
+unfolding extEnds extStep token?
+ends-semicolon ExtPos.Between h = refl
+ends-semicolon ExtPos.Name0 h = false-true h
+ends-semicolon ExtPos.Name h = refl
+ends-semicolon ExtPos.Value0 h = false-true h
+ends-semicolon ExtPos.Token h = refl
+ends-semicolon ExtPos.Quoted h = false-true h
+ends-semicolon ExtPos.Pair h = false-true h
+ends-semicolon ExtPos.Bad h = false-true h
+
+run-name : {n : List ℕ} → Many token? n → extRun ExtPos.Name n ≡ ExtPos.Name
+unfolding extStep
+run-name G.none = refl
+run-name (G.more h m) = rw h (run-name m)
+
+run-token : {n : List ℕ} → Many token? n → extRun ExtPos.Token n ≡ ExtPos.Token
+unfolding extStep
+run-token G.none = refl
+run-token (G.more h m) = rw h (run-token m)
+
+run-name0 : {n : List ℕ} → Some token? n → extRun ExtPos.Name0 n ≡ ExtPos.Name
+unfolding extStep
+run-name0 (G.some h m) = rw h (run-name m)
+
+close-quote : extStep ExtPos.Quoted 34 ≡ ExtPos.Between
+unfolding extStep text?
+close-quote = refl
+
+open-pair : extStep ExtPos.Quoted 92 ≡ ExtPos.Pair
+unfolding extStep text?
+open-pair = refl
+
+open-quote : extStep ExtPos.Value0 34 ≡ ExtPos.Quoted
+unfolding extStep token?
+open-quote = refl
+
+name-equals : extStep ExtPos.Name 61 ≡ ExtPos.Value0
+unfolding extStep token?
+name-equals = refl
+
+step-text : (b : ℕ) → text? b ≡ true → extStep ExtPos.Quoted b ≡ ExtPos.Quoted
+unfolding extStep
+step-text b h = rw h
+
+step-escaped : (b : ℕ) → escaped? b ≡ true → extStep ExtPos.Pair b ≡ ExtPos.Quoted
+unfolding extStep
+step-escaped b h = rw h
+
+run-inside : {i : List ℕ} → Inside i → extRun ExtPos.Quoted (i ++ (34 ∷ [])) ≡ ExtPos.Between
+run-inside G.end = close-quote
+run-inside (G.text {b = b} {xs = xs} h w) = run-step extStep ExtPos.Quoted b (xs ++ (34 ∷ [])) (step-text b h) ∙ run-inside w
+run-inside (G.pair {b = b} {xs = xs} h w) =
+    run-step extStep ExtPos.Quoted 92 (b ∷ (xs ++ (34 ∷ []))) open-pair ∙ run-step extStep ExtPos.Pair b (xs ++ (34 ∷ [])) (step-escaped b h) ∙ run-inside w
+
+run-value : {v : List ℕ} → Value v → extEnds (extRun ExtPos.Value0 v) ≡ true
+unfolding extStep extEnds
+run-value (G.token (G.some h m)) = rw h (rw (run-token m) refl)
+run-value (G.quoted {xs = xs} w) = ap extEnds (run-step extStep ExtPos.Value0 34 (xs ++ (34 ∷ [])) open-quote ∙ run-inside w)
+
+run-extension : {x : List ℕ} → Extension x → (a : ExtPos) → extEnds a ≡ true → extEnds (extRun a x) ≡ true
+run-extension (G.bare {n = n} t) a h = rw (ends-semicolon a h) (rw (run-name0 t) (unfold extEnds in refl))
+run-extension (G.valued {n = n} {v = v} t w) a h =
+    rw (run-step extStep a 59 (n ++ (61 ∷ v)) (ends-semicolon a h))
+    (rw (run-append extStep ExtPos.Name0 n (61 ∷ v)) (rw (run-name0 t) (rw (run-step extStep ExtPos.Name 61 v name-equals) (run-value w))))
+
+pub ext-sound : {xs : List ℕ} → Extensions xs → (a : ExtPos) → extEnds a ≡ true → extEnds (extRun a xs) ≡ true
+ext-sound G.none a h = h
+ext-sound (G.more {e = e} {es = es} x xs) a h = rw (run-append extStep a e es) (ext-sound xs (extRun a e) (run-extension x a h))
+
+-- ## Live positions
+
+pub ext-dead : (e : ExtPos) (b : ℕ) → extLive e ≡ false → extLive (extStep e b) ≡ false
+unfolding extLive extStep
+ext-dead ExtPos.Between b h = false-true (sym h)
+ext-dead ExtPos.Name0 b h = false-true (sym h)
+ext-dead ExtPos.Name b h = false-true (sym h)
+ext-dead ExtPos.Value0 b h = false-true (sym h)
+ext-dead ExtPos.Token b h = false-true (sym h)
+ext-dead ExtPos.Quoted b h = false-true (sym h)
+ext-dead ExtPos.Pair b h = false-true (sym h)
+ext-dead ExtPos.Bad b h = refl
+
+pub ext-no-cr : (e : ExtPos) → extLive (extStep e 13) ≡ false
+unfolding extLive extStep token? text? escaped?
+ext-no-cr ExtPos.Between = refl
+ext-no-cr ExtPos.Name0 = refl
+ext-no-cr ExtPos.Name = refl
+ext-no-cr ExtPos.Value0 = refl
+ext-no-cr ExtPos.Token = refl
+ext-no-cr ExtPos.Quoted = refl
+ext-no-cr ExtPos.Pair = refl
+ext-no-cr ExtPos.Bad = refl
+
+pub ext-finish : (e : ExtPos) → extLive e ≡ true → (u : List ℕ) × (extEnds (extRun e u) ≡ true)
+unfolding extLive extStep extEnds token? text? escaped?
+ext-finish ExtPos.Between h = ([], refl)
+ext-finish ExtPos.Name0 h = (97 ∷ [], refl)
+ext-finish ExtPos.Name h = ([], refl)
+ext-finish ExtPos.Value0 h = (97 ∷ [], refl)
+ext-finish ExtPos.Token h = ([], refl)
+ext-finish ExtPos.Quoted h = (34 ∷ [], refl)
+ext-finish ExtPos.Pair h = (32 ∷ 34 ∷ [], refl)
+ext-finish ExtPos.Bad h = false-true h
+
+pub ext-ends-live : (e : ExtPos) → extEnds e ≡ true → extLive e ≡ true
+unfolding extLive extEnds
+ext-ends-live ExtPos.Between h = refl
+ext-ends-live ExtPos.Name0 h = refl
+ext-ends-live ExtPos.Name h = refl
+ext-ends-live ExtPos.Value0 h = refl
+ext-ends-live ExtPos.Token h = refl
+ext-ends-live ExtPos.Quoted h = refl
+ext-ends-live ExtPos.Pair h = refl
+ext-ends-live ExtPos.Bad h = false-true h

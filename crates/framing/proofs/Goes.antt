@@ -1,0 +1,286 @@
+-- From the grammar to the machine: how the machine goes over each part of a body. And each live state has a completion.
+use mathlib.Core.Path.{_≡_, refl, sym, _∙_, ap, ap₂, subst}
+use mathlib.Core.Bool.{Bool, true, false, _&&_, cond}
+use mathlib.Core.List.{List, [], _∷_, _++_, append-assoc, append-nil}
+use mathlib.Core.Option.{Option, none, some}
+use Prim.Native.Nat.{ℕ, zero, suc, _+_, _<_}
+use native.Mathlib.Omega.{arith}
+use lib.Dec.{eqb}
+use lib.ListN.{length, length-append, replicate, length-replicate}
+use borrow.Author.Tests.{eqb-true}
+use Rattle.framing.specs.declared.LinePos.{LinePos}
+use Rattle.framing.specs.declared.LinePos.the-variants.{First, Size, Ext}
+use Rattle.framing.specs.declared.TrailPos.{TrailPos}
+use Rattle.framing.specs.declared.TrailPos.the-variants.{Start, Field, Content, Feed, Wrong}
+use Rattle.framing.specs.declared.State.{State}
+use Rattle.framing.specs.declared.State.the-variants.{Line, LineFeed, Data, DataCr, DataLf, Trail, EndLf, Done, Dead}
+use Rattle.framing.specs.Grammar as G
+use Rattle.octets.specs.Bytes.{octet?, hex?}
+use Rattle.framing.specs.Grammar.{Many, Trailer, Chunk, Chunks, Body}
+use Rattle.framing.specs.Machine.{lineStep, lineEnds, lineLive, trailStep, trailEnds, trailLive, leaveLine, enterChunk, step, emit, live, start}
+use Rattle.framing.specs.Scan.{run, out}
+use Rattle.framing.proofs.Scanning.{run-append, run-step, out-append, run-live}
+use Rattle.framing.proofs.Cases.{false-true, to-cond}
+use Rattle.framing.proofs.Lines.{lineRun, line-sound, line-dead, line-no-cr, line-finish, line-ends-live}
+use Rattle.framing.proofs.Trails.{trailRun, trail-sound, trail-dead, trail-no-cr, trail-finish, trail-ends-start, trail-live-start, ends-live}
+
+-- over xs the machine goes from s to s′ and gives d
+pub record Goes (s : State) (xs d : List ℕ) (s′ : State) : Type 0 where
+  pub ends : run step s xs ≡ s′
+  pub gives : out step emit s xs ≡ d
+
+pub stay : (s : State) → Goes s [] [] s
+stay s = record { ends = refl; gives = refl }
+
+pub then : {s s′ s″ : State} {xs ys d e : List ℕ} → Goes s xs d s′ → Goes s′ ys e s″ → Goes s (xs ++ ys) (d ++ e) s″
+then {s} {s′} {s″} {xs} {ys} {d} {e} g h = record {
+  ends = run-append step s xs ys ∙ ap (λ (z : State). run step z ys) (g .ends) ∙ h .ends;
+  gives = out-append step emit s xs ys
+      ∙ ap (λ (z : State). out step emit s xs ++ out step emit z ys) (g .ends)
+      ∙ ap₂ (λ (a b : List ℕ). a ++ b) (g .gives) (h .gives);
+}
+
+pub byte : (s : State) {s′ s″ : State} (b : ℕ) {xs a d : List ℕ} → step s b ≡ s′ → emit s b ≡ a → Goes s′ xs d s″ → Goes s (b ∷ xs) (a ++ d) s″
+byte s {s′} {s″} b {xs} {a} {d} e f g = record {
+  ends = ap (λ (z : State). run step z xs) e ∙ g .ends;
+  gives = ap (λ (z : State). emit s b ++ out step emit z xs) e ∙ ap₂ (λ (x y : List ℕ). x ++ y) f (g .gives);
+}
+
+-- ## In a line
+step-line : (p : LinePos) (b k t : ℕ) → lineLive (lineStep p b) ≡ true → step (Line p k t) b ≡ Line (lineStep p b) (suc k) t
+unfolding step
+step-line p b k t h = to-cond (λ (s : State). s ≡ Line (lineStep p b) (suc k) t) (eqb b 13)
+    (λ e. false-true (sym (line-no-cr p) ∙ rw (eqb-true b 13 e) at h)) (λ _. refl)
+
+emit-line : (p : LinePos) (b k t : ℕ) → emit (Line p k t) b ≡ []
+unfolding emit
+emit-line p b k t = refl
+
+pub goes-line : (l : List ℕ) (p : LinePos) (k t : ℕ) → lineLive (lineRun p l) ≡ true → Goes (Line p k t) l [] (Line (lineRun p l) (k + length l) t)
+goes-line [] p k t h = record { ends = ap (λ (n : ℕ). Line p n t) (omega arith); gives = refl }
+goes-line (b ∷ l) p k t h =
+    byte (Line p k t) b (step-line p b k t (run-live lineStep lineLive line-dead (lineStep p b) l h)) (emit-line p b k t)
+    (subst (λ (n : ℕ). Goes (Line (lineStep p b) (suc k) t) l [] (Line (lineRun (lineStep p b) l) n t)) (omega arith)
+    (goes-line l (lineStep p b) (suc k) t h))
+
+-- the CR and the LF behind it
+line-cr : (p : LinePos) (v k t : ℕ) → lineEnds p ≡ some v → step (Line p k t) 13 ≡ LineFeed v t
+unfolding step leaveLine
+line-cr p v k t e = rw e refl
+
+feed-lf : (v t : ℕ) → step (LineFeed v t) 10 ≡ enterChunk v t
+unfolding step
+feed-lf v t = refl
+
+emit-feed : (v t b : ℕ) → emit (LineFeed v t) b ≡ []
+unfolding emit
+emit-feed v t b = refl
+
+pub goes-feed : (v t : ℕ) → Goes (LineFeed v t) (10 ∷ []) [] (enterChunk v t)
+goes-feed v t = byte (LineFeed v t) 10 (feed-lf v t) (emit-feed v t 10) (stay (enterChunk v t))
+
+pub goes-ended : (p : LinePos) (v k t : ℕ) → lineEnds p ≡ some v → Goes (Line p k t) (13 ∷ 10 ∷ []) [] (enterChunk v t)
+goes-ended p v k t e = byte (Line p k t) 13 (line-cr p v k t e) (emit-line p 13 k t) (goes-feed v t)
+
+pub goes-whole-line : {l : List ℕ} {v : ℕ} (t : ℕ) → G.Line l v → Goes (Line First 0 t) (l ++ (13 ∷ 10 ∷ [])) [] (enterChunk v t)
+goes-whole-line {l} {v} t h =
+    then (goes-line l First 0 t (line-ends-live (lineRun First l) v (line-sound h)))
+    (goes-ended (lineRun First l) v (0 + length l) t (line-sound h))
+
+-- ## In data
+step-last : (t b : ℕ) → octet? b ≡ true → step (Data 0 t) b ≡ DataCr t
+unfolding step
+step-last t b h = rw h refl
+
+step-data : (m t b : ℕ) → octet? b ≡ true → step (Data (suc m) t) b ≡ Data m t
+unfolding step
+step-data m t b h = rw h refl
+
+emit-data : (m t b : ℕ) → emit (Data m t) b ≡ b ∷ []
+unfolding emit
+emit-data m t b = refl
+
+pub goes-data : {x : List ℕ} (m t : ℕ) → Many octet? x → length x ≡ suc m → Goes (Data m t) x x (DataCr t)
+goes-data m t G.none h = absurd (omega arith)
+goes-data zero t (G.more {b = b} k G.none) h = byte (Data 0 t) b (step-last t b k) (emit-data 0 t b) (stay (DataCr t))
+goes-data (suc m) t (G.more k G.none) h = absurd (omega arith)
+goes-data zero t (G.more k (G.more k′ ks)) h = absurd (omega arith)
+goes-data (suc m) t (G.more {b = b} k (G.more k′ ks)) h =
+    byte (Data (suc m) t) b (step-data m t b k) (emit-data (suc m) t b) (goes-data m t (G.more k′ ks) (omega arith))
+
+data-cr : (t : ℕ) → step (DataCr t) 13 ≡ DataLf t
+unfolding step
+data-cr t = refl
+
+data-lf : (t : ℕ) → step (DataLf t) 10 ≡ Line First 0 t
+unfolding step
+data-lf t = refl
+
+emit-cr : (t b : ℕ) → emit (DataCr t) b ≡ []
+unfolding emit
+emit-cr t b = refl
+
+emit-lf : (t b : ℕ) → emit (DataLf t) b ≡ []
+unfolding emit
+emit-lf t b = refl
+
+pub goes-lf : (t : ℕ) → Goes (DataLf t) (10 ∷ []) [] (Line First 0 t)
+goes-lf t = byte (DataLf t) 10 (data-lf t) (emit-lf t 10) (stay (Line First 0 t))
+
+pub goes-crlf : (t : ℕ) → Goes (DataCr t) (13 ∷ 10 ∷ []) [] (Line First 0 t)
+goes-crlf t = byte (DataCr t) 13 (data-cr t) (emit-cr t 13) (goes-lf t)
+
+enter-data : (m t : ℕ) → enterChunk (suc m) t ≡ Data m (t + suc m)
+unfolding enterChunk
+enter-data m t = refl
+
+enter-trail : (t : ℕ) → enterChunk 0 t ≡ Trail Start 0 t
+unfolding enterChunk
+enter-trail t = refl
+
+goes-chunk-data : {x : List ℕ} (v t : ℕ) → Many octet? x → length x ≡ v → 0 < v → Goes (enterChunk v t) x x (DataCr (t + v))
+goes-chunk-data zero t k e h = absurd (omega arith)
+goes-chunk-data (suc m) t k e h = rw (enter-data m t) (goes-data m (t + suc m) k e)
+
+pub goes-chunk : {e x : List ℕ} (t : ℕ) → Chunk e x → Goes (Line First 0 t) e x (Line First 0 (t + length x))
+goes-chunk t (G.chunk {l = l} {x = x} h k m) =
+    subst (λ (z : List ℕ). Goes (Line First 0 t) z x (Line First 0 (t + length x))) (append-assoc l (13 ∷ 10 ∷ []) (x ++ (13 ∷ 10 ∷ [])))
+    (subst (λ (z : List ℕ). Goes (Line First 0 t) ((l ++ (13 ∷ 10 ∷ [])) ++ (x ++ (13 ∷ 10 ∷ []))) z (Line First 0 (t + length x))) (append-nil x)
+    (then (goes-whole-line t h) (then (goes-chunk-data (length x) t m refl k) (goes-crlf (t + length x)))))
+
+pub goes-chunks : {c d : List ℕ} → Chunks c d → Goes start c d (Line First 0 (length d))
+goes-chunks G.none = stay start
+goes-chunks (G.more {c = c} {d = d} {e = e} {x = x} cs h) =
+    subst (λ (n : ℕ). Goes start (c ++ e) (d ++ x) (Line First 0 n)) (sym (length-append d x)) (then (goes-chunks cs) (goes-chunk (length d) h))
+
+-- ## In the trailer
+step-trail : (p : TrailPos) (b k t : ℕ) → trailLive (trailStep p b) ≡ true → step (Trail p k t) b ≡ Trail (trailStep p b) (suc k) t
+unfolding step
+step-trail p b k t h = go (trailEnds p) (eqb b 13) refl refl
+  where
+    go : (x y : Bool) → trailEnds p ≡ x → eqb b 13 ≡ y → cond (x && y) (EndLf t) (Trail (trailStep p b) (suc k) t) ≡ Trail (trailStep p b) (suc k) t
+    go true true e f = false-true (sym (trail-no-cr p e) ∙ rw (eqb-true b 13 f) at h)
+    go true false e f = refl
+    go false y e f = refl
+
+emit-trail : (p : TrailPos) (b k t : ℕ) → emit (Trail p k t) b ≡ []
+unfolding emit
+emit-trail p b k t = refl
+
+pub goes-trail : (l : List ℕ) (p : TrailPos) (k t : ℕ) → trailLive (trailRun p l) ≡ true → Goes (Trail p k t) l [] (Trail (trailRun p l) (k + length l) t)
+goes-trail [] p k t h = record { ends = ap (λ (n : ℕ). Trail p n t) (omega arith); gives = refl }
+goes-trail (b ∷ l) p k t h =
+    byte (Trail p k t) b (step-trail p b k t (run-live trailStep trailLive trail-dead (trailStep p b) l h)) (emit-trail p b k t)
+    (subst (λ (n : ℕ). Goes (Trail (trailStep p b) (suc k) t) l [] (Trail (trailRun (trailStep p b) l) n t)) (omega arith)
+    (goes-trail l (trailStep p b) (suc k) t h))
+
+trail-cr : (k t : ℕ) → step (Trail Start k t) 13 ≡ EndLf t
+unfolding step
+trail-cr k t = refl
+
+end-lf : (t : ℕ) → step (EndLf t) 10 ≡ Done t
+unfolding step
+end-lf t = refl
+
+emit-end : (t b : ℕ) → emit (EndLf t) b ≡ []
+unfolding emit
+emit-end t b = refl
+
+pub goes-end : (t : ℕ) → Goes (EndLf t) (10 ∷ []) [] (Done t)
+goes-end t = byte (EndLf t) 10 (end-lf t) (emit-end t 10) (stay (Done t))
+
+pub goes-close : (k t : ℕ) → Goes (Trail Start k t) (13 ∷ 10 ∷ []) [] (Done t)
+goes-close k t = byte (Trail Start k t) 13 (trail-cr k t) (emit-trail Start 13 k t) (goes-end t)
+
+pub goes-last-line : {l : List ℕ} (t : ℕ) → G.Line l 0 → Goes (Line First 0 t) (l ++ (13 ∷ 10 ∷ [])) [] (Trail Start 0 t)
+goes-last-line {l} t h = subst (Goes (Line First 0 t) (l ++ (13 ∷ 10 ∷ [])) []) (enter-trail t) (goes-whole-line t h)
+
+goes-trailer : {y : List ℕ} (t : ℕ) → Trailer y → Goes (Trail Start 0 t) y [] (Trail Start (0 + length y) t)
+goes-trailer {y} t h =
+    subst (λ (p : TrailPos). Goes (Trail Start 0 t) y [] (Trail p (0 + length y) t)) (trail-sound h)
+    (goes-trail y Start 0 t (rw (trail-sound h) trail-live-start))
+
+-- ## A body
+pub goes-body : {xs d : List ℕ} → Body xs d → Goes start xs d (Done (length d))
+goes-body (G.body {c = c} {d = d} {l = l} {t = t} cs h y) =
+    subst (λ (z : List ℕ). Goes start (c ++ z) d (Done (length d))) (append-assoc l (13 ∷ 10 ∷ []) (t ++ (13 ∷ 10 ∷ [])))
+    (subst (λ (z : List ℕ). Goes start (c ++ ((l ++ (13 ∷ 10 ∷ [])) ++ (t ++ (13 ∷ 10 ∷ [])))) z (Done (length d))) (append-nil d)
+    (then (goes-chunks cs) (then (goes-last-line (length d) h) (then (goes-trailer (length d) y) (goes-close (0 + length t) (length d))))))
+
+-- ## Every live state has a completion
+pub record Finish (s : State) : Type 0 where
+  pub rest : List ℕ
+  pub data′ : List ℕ
+  pub total : ℕ
+  pub goes : Goes s rest data′ (Done total)
+
+before : {s s′ : State} {xs d : List ℕ} → Goes s xs d s′ → Finish s′ → Finish s
+before {xs = xs} {d = d} g f = record { rest = xs ++ f .rest; data′ = d ++ f .data′; total = f .total; goes = then g (f .goes) }
+
+finish-trail : (p : TrailPos) (k t : ℕ) → trailLive p ≡ true → Finish (Trail p k t)
+finish-trail p k t h =
+    let f : (u : List ℕ) × (trailRun p u ≡ Start) = trail-finish p h in
+    before
+    (subst (λ (q : TrailPos). Goes (Trail p k t) (f .0) [] (Trail q (k + length (f .0)) t)) (f .1)
+    (goes-trail (f .0) p k t (rw (f .1) trail-live-start)))
+    (record { rest = 13 ∷ 10 ∷ []; data′ = []; total = t; goes = goes-close (k + length (f .0)) t })
+
+finish-first : (k t : ℕ) → Finish (Line First k t)
+finish-first k t =
+    before (goes-line (48 ∷ []) First k t (unfold lineLive lineStep hex? in refl))
+    (before (goes-ended (lineRun First (48 ∷ [])) 0 (k + 1) t (unfold lineEnds lineStep hex? in refl))
+    (rw (enter-trail t) (finish-trail Start 0 t trail-live-start)))
+
+finish-cr : (t : ℕ) → Finish (DataCr t)
+finish-cr t = before (goes-crlf t) (finish-first 0 t)
+
+zeros : (n : ℕ) → Many octet? (replicate n 0)
+zeros zero = G.none
+zeros (suc n) = G.more refl (zeros n)
+
+finish-data : (m t : ℕ) → Finish (Data m t)
+finish-data m t = before (goes-data m t (zeros (suc m)) (length-replicate (suc m) 0)) (finish-cr t)
+
+finish-enter : (v t : ℕ) → Finish (enterChunk v t)
+finish-enter zero t = rw (enter-trail t) (finish-trail Start 0 t trail-live-start)
+finish-enter (suc m) t = rw (enter-data m t) (finish-data m (t + suc m))
+
+finish-line : (p : LinePos) (k t : ℕ) → lineLive p ≡ true → Finish (Line p k t)
+finish-line p k t h =
+    let f : (u : List ℕ) × (v : ℕ) × (lineEnds (lineRun p u) ≡ some v) = line-finish p h in
+    before (goes-line (f .0) p k t (line-ends-live (lineRun p (f .0)) (f .1) (f .2)))
+    (before (goes-ended (lineRun p (f .0)) (f .1) (k + length (f .0)) t (f .2)) (finish-enter (f .1) t))
+
+pub finish : (s : State) → live s ≡ true → Finish s
+unfolding live
+finish (Line p k t) h = finish-line p k t h
+finish (LineFeed v t) h = before (goes-feed v t) (finish-enter v t)
+finish (Data m t) h = finish-data m t
+finish (DataCr t) h = finish-cr t
+finish (DataLf t) h = before (goes-lf t) (finish-first 0 t)
+finish (Trail p k t) h = finish-trail p k t h
+finish (EndLf t) h = record { rest = 10 ∷ []; data′ = []; total = t; goes = goes-end t }
+finish (Done t) h = record { rest = []; data′ = []; total = t; goes = stay (Done t) }
+finish Dead h = false-true h
+
+-- ## A dead state stays dead, and nothing follows a body
+leave-dead : (p : LinePos) (t : ℕ) (o : Option ℕ) → lineEnds p ≡ o → lineLive p ≡ false → live (leaveLine o t) ≡ false
+unfolding live leaveLine
+leave-dead p t none e h = refl
+leave-dead p t (some v) e h = false-true (sym h ∙ line-ends-live p v e)
+
+pub dead : (s : State) (b : ℕ) → live s ≡ false → live (step s b) ≡ false
+unfolding live step
+dead (Line p k t) b h = to-cond (λ (s : State). live s ≡ false) (eqb b 13) (λ _. leave-dead p t (lineEnds p) refl h) (λ _. line-dead p b h)
+dead (LineFeed v t) b h = false-true (sym h)
+dead (Data m t) b h = false-true (sym h)
+dead (DataCr t) b h = false-true (sym h)
+dead (DataLf t) b h = false-true (sym h)
+dead (Trail p k t) b h = go (trailEnds p) refl (eqb b 13)
+  where
+    go : (x : Bool) → trailEnds p ≡ x → (y : Bool) → live (cond (x && y) (EndLf t) (Trail (trailStep p b) (suc k) t)) ≡ false
+    go true e y = false-true (sym h ∙ ends-live p e)
+    go false e y = trail-dead p b h
+dead (EndLf t) b h = false-true (sym h)
+dead (Done t) b h = false-true (sym h)
+dead Dead b h = refl

@@ -1,0 +1,12 @@
+pub mod Cases
+pub mod Scanning
+pub mod Machines
+pub mod Exts
+pub mod Lines
+pub mod Trails
+pub mod Goes
+pub mod Past
+pub mod Rooms
+pub mod Judging
+pub mod Demands
+pub mod Examples

@@ -1,0 +1,167 @@
+-- The machine for a chunk line agrees with the grammar.
+use mathlib.Core.Path.{_≡_, refl, sym, _∙_, ap, subst}
+use mathlib.Core.Bool.{Bool, true, false, cond}
+use mathlib.Core.List.{List, [], _∷_, _++_, append-assoc, append-nil}
+use mathlib.Core.Option.{Option, none, some}
+use Prim.Native.Nat.{ℕ, _+_, _*_}
+use native.Mathlib.Omega.{arith}
+use lib.Dec.{eqb}
+use Rattle.framing.specs.declared.ExtPos.{ExtPos}
+use Rattle.framing.specs.declared.ExtPos.the-variants as ExtPos
+use Rattle.framing.specs.declared.LinePos.{LinePos}
+use Rattle.framing.specs.declared.LinePos.the-variants.{First, Size, Ext}
+use Rattle.framing.specs.Grammar as G
+use Rattle.octets.specs.Bytes.{hex?, hex-value, token?, text?, escaped?}
+use Rattle.framing.specs.Grammar.{Many, Some, valueFrom, Extension, Extensions, Line}
+use Rattle.framing.specs.Machine.{extStep, extEnds, extLive, lineStep, lineEnds, lineLive}
+use Rattle.framing.specs.Scan.{run}
+use Rattle.framing.proofs.Scanning.{run-append}
+use Rattle.framing.proofs.Cases.{false-true, by-cond}
+use Rattle.framing.proofs.Exts.{extRun, Rest, back, rest-nil, from-between, ext-sound, ext-dead, ext-no-cr, ext-finish, ext-ends-live}
+
+abbrev pub lineRun : LinePos → List ℕ → LinePos
+lineRun = run lineStep
+
+pub none-some : {A : Type 0} {v : ℕ} → none ≡ some v → A
+none-some e = let z : _≡_ {A = ℕ} 0 1 = cc in absurd (omega arith)
+
+-- ## From the machine to the grammar
+
+data Waits : LinePos → ℕ → List ℕ → Type 0 where
+  first : {v : ℕ} {xs : List ℕ} → Line xs v → Waits First v xs
+  size : {w : ℕ} {s e : List ℕ} → Many hex? s → Extensions e → Waits (Size w) (valueFrom w s) (s ++ e)
+  ext : {w : ℕ} {p : ExtPos} {xs : List ℕ} → Rest p xs → Waits (Ext w p) w xs
+
+from-first : {v : ℕ} {xs : List ℕ} → Waits First v xs → Line xs v
+from-first (first l) = l
+
+bad : {A : Type 0} {v w : ℕ} {xs : List ℕ} → Waits (Ext w ExtPos.Bad) v xs → A
+bad (ext h) = elim h [ ]
+
+size-first : {b v : ℕ} {xs : List ℕ} → hex? b ≡ true → Waits (Size (0 * 16 + hex-value b)) v xs → Waits First v (b ∷ xs)
+size-first {b} h (size {s = s} m e) = first (G.line (G.size (G.some h m)) e)
+
+to-size : {w b v : ℕ} {xs : List ℕ} → hex? b ≡ true → Waits (Size (w * 16 + hex-value b)) v xs → Waits (Size w) v (b ∷ xs)
+to-size h (size m e) = size (G.more h m) e
+
+ext-size : {w b v : ℕ} {xs : List ℕ} → Waits (Ext w (extStep ExtPos.Between b)) v xs → Waits (Size w) v (b ∷ xs)
+ext-size {b = b} (ext {xs = xs} h) = size G.none (from-between (back ExtPos.Between b xs h))
+
+to-ext : {w b v : ℕ} {p : ExtPos} {xs : List ℕ} → Waits (Ext w (extStep p b)) v xs → Waits (Ext w p) v (b ∷ xs)
+to-ext {b = b} {p = p} (ext {xs = xs} h) = ext (back p b xs h)
+
+line-back : (p : LinePos) (b v : ℕ) (xs : List ℕ) → Waits (lineStep p b) v xs → Waits p v (b ∷ xs)
+unfolding lineStep
+line-back First b v xs = by-cond (λ (p : LinePos). Waits p v xs) (hex? b) size-first (λ k h. bad h)
+line-back (Size w) b v xs = by-cond (λ (p : LinePos). Waits p v xs) (hex? b) to-size (λ k h. ext-size h)
+line-back (Ext w p) b v xs = λ h. to-ext h
+
+ext-nil : (w v : ℕ) (p : ExtPos) (t : Bool) → extEnds p ≡ t → cond t (some w) none ≡ some v → Waits (Ext w p) v []
+ext-nil w v p true h e = let z : w ≡ v = cc in subst (λ (n : ℕ). Waits (Ext w p) n []) z (ext (rest-nil p h))
+ext-nil w v p false h e = none-some e
+
+line-nil : (p : LinePos) (v : ℕ) → lineEnds p ≡ some v → Waits p v []
+unfolding lineEnds
+line-nil First v e = none-some e
+line-nil (Size w) v e = let z : w ≡ v = cc in subst (λ (n : ℕ). Waits (Size w) n []) z (size G.none G.none)
+line-nil (Ext w p) v e = ext-nil w v p (extEnds p) refl e
+
+waits : (p : LinePos) (v : ℕ) (xs : List ℕ) → lineEnds (lineRun p xs) ≡ some v → Waits p v xs
+waits p v [] e = line-nil p v e
+waits p v (b ∷ xs) e = line-back p b v xs (waits (lineStep p b) v xs e)
+
+pub line-complete : (xs : List ℕ) (v : ℕ) → lineEnds (lineRun First xs) ≡ some v → Line xs v
+line-complete xs v e = from-first (waits First v xs e)
+
+-- ## From the grammar to the machine
+
+pub run-size : {s : List ℕ} (w : ℕ) → Many hex? s → lineRun (Size w) s ≡ Size (valueFrom w s)
+unfolding lineStep
+run-size w G.none = refl
+run-size w (G.more {b = b} h m) = rw h (run-size (w * 16 + hex-value b) m)
+
+pub run-digits : {s : List ℕ} {v : ℕ} → G.Size s v → lineRun First s ≡ Size v
+unfolding lineStep
+run-digits (G.size (G.some {b = b} h m)) = rw h (run-size (0 * 16 + hex-value b) m)
+
+pub run-ext : (w : ℕ) (p : ExtPos) (xs : List ℕ) → lineRun (Ext w p) xs ≡ Ext w (extRun p xs)
+unfolding lineStep
+run-ext w p [] = refl
+run-ext w p (b ∷ xs) = run-ext w (extStep p b) xs
+
+-- a list that is empty or begins with a semicolon takes a size as it takes the place between extensions
+ends-size : (w : ℕ) {xs : List ℕ} → Extensions xs → lineEnds (lineRun (Size w) xs) ≡ some w
+unfolding lineStep lineEnds hex?
+ends-size w G.none = refl
+ends-size w (G.more {es = es} (G.bare {n = n} t) xs) =
+    rw (run-ext w (extStep ExtPos.Between 59) (n ++ es))
+    (rw (ext-sound (G.more (G.bare t) xs) ExtPos.Between (unfold extEnds in refl)) refl)
+ends-size w (G.more {es = es} (G.valued {n = n} {v = v} t y) xs) =
+    rw (run-ext w (extStep ExtPos.Between 59) ((n ++ (61 ∷ v)) ++ es))
+    (rw (ext-sound (G.more (G.valued t y) xs) ExtPos.Between (unfold extEnds in refl)) refl)
+
+pub line-sound : {xs : List ℕ} {v : ℕ} → Line xs v → lineEnds (lineRun First xs) ≡ some v
+line-sound (G.line {s = s} {e = e} {v = v} z x) = rw (run-append lineStep First s e) (rw (run-digits z) (ends-size v x))
+
+-- ## Where only digits lead
+data Digits : LinePos → ℕ → List ℕ → Type 0 where
+  from-none : {v : ℕ} {xs : List ℕ} → G.Size xs v → Digits First v xs
+  from-some : {w : ℕ} {xs : List ℕ} → Many hex? xs → Digits (Size w) (valueFrom w xs) xs
+
+not-ext : {A : Type 0} {v w : ℕ} {p : ExtPos} {xs : List ℕ} → Digits (Ext w p) v xs → A
+not-ext h = elim h [ ]
+
+digit-first : {b v : ℕ} {xs : List ℕ} → hex? b ≡ true → Digits (Size (0 * 16 + hex-value b)) v xs → Digits First v (b ∷ xs)
+digit-first h (from-some m) = from-none (G.size (G.some h m))
+
+digit-more : {w b v : ℕ} {xs : List ℕ} → hex? b ≡ true → Digits (Size (w * 16 + hex-value b)) v xs → Digits (Size w) v (b ∷ xs)
+digit-more h (from-some m) = from-some (G.more h m)
+
+digits-back : (p : LinePos) (b v : ℕ) (xs : List ℕ) → Digits (lineStep p b) v xs → Digits p v (b ∷ xs)
+unfolding lineStep
+digits-back First b v xs = by-cond (λ (p : LinePos). Digits p v xs) (hex? b) digit-first (λ k h. not-ext h)
+digits-back (Size w) b v xs = by-cond (λ (p : LinePos). Digits p v xs) (hex? b) digit-more (λ k h. not-ext h)
+digits-back (Ext w p) b v xs = λ h. not-ext h
+
+digits-nil : (p : LinePos) (v : ℕ) → p ≡ Size v → Digits p v []
+digits-nil First v e = let z : _≡_ {A = ℕ} 0 1 = cc in absurd (omega arith)
+digits-nil (Size w) v e = let z : w ≡ v = cc in subst (λ (n : ℕ). Digits (Size w) n []) z (from-some G.none)
+digits-nil (Ext w p) v e = let z : _≡_ {A = ℕ} 0 1 = cc in absurd (omega arith)
+
+digits : (p : LinePos) (v : ℕ) (xs : List ℕ) → lineRun p xs ≡ Size v → Digits p v xs
+digits p v [] e = digits-nil p v e
+digits p v (b ∷ xs) e = digits-back p b v xs (digits (lineStep p b) v xs e)
+
+only-digits : {v : ℕ} {xs : List ℕ} → Digits First v xs → G.Size xs v
+only-digits (from-none h) = h
+
+pub digits-complete : (xs : List ℕ) (v : ℕ) → lineRun First xs ≡ Size v → G.Size xs v
+digits-complete xs v e = only-digits (digits First v xs e)
+
+-- ## Live positions
+
+pub line-dead : (p : LinePos) (b : ℕ) → lineLive p ≡ false → lineLive (lineStep p b) ≡ false
+unfolding lineLive lineStep
+line-dead First b h = false-true (sym h)
+line-dead (Size v) b h = false-true (sym h)
+line-dead (Ext v e) b h = ext-dead e b h
+
+pub line-no-cr : (p : LinePos) → lineLive (lineStep p 13) ≡ false
+unfolding lineLive lineStep hex?
+line-no-cr First = unfold extLive in refl
+line-no-cr (Size v) = ext-no-cr ExtPos.Between
+line-no-cr (Ext v e) = ext-no-cr e
+
+pub line-finish : (p : LinePos) → lineLive p ≡ true → (u : List ℕ) × (v : ℕ) × (lineEnds (lineRun p u) ≡ some v)
+unfolding lineLive lineStep lineEnds hex?
+line-finish First h = (48 ∷ [], 0, refl)
+line-finish (Size v) h = ([], v, refl)
+line-finish (Ext v e) h =
+    let f : (u : List ℕ) × (extEnds (extRun e u) ≡ true) = ext-finish e h in
+    (f .0, v, rw (run-ext v e (f .0)) (rw (f .1) refl))
+
+pub line-ends-live : (p : LinePos) (v : ℕ) → lineEnds p ≡ some v → lineLive p ≡ true
+unfolding lineLive lineEnds
+line-ends-live First v h = refl
+line-ends-live (Size w) v h = refl
+line-ends-live (Ext w e) v h = by-cond (λ (o : Option ℕ). o ≡ some v) (extEnds e) (λ k _. ext-ends-live e k) (λ _ z. none-some z) h

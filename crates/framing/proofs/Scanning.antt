@@ -1,0 +1,161 @@
+-- What a scan finds, for any machine that takes one byte at a time: the first judged state, the same in every longer input.
+use mathlib.Core.Path.{_≡_, refl, sym, _∙_, ap, subst}
+use mathlib.Core.Bool.{Bool, true, false}
+use mathlib.Core.List.{List, [], _∷_, _++_, append-assoc}
+use mathlib.Core.Logic.{_⊎_, ⊎-elim}
+use mathlib.Core.Option.{Option, none, some}
+use Prim.Native.Nat.{ℕ, zero, suc, _+_, _<_, _≤_}
+use native.Mathlib.Decide.{ℕ-discrete, decLt}
+use native.Mathlib.Omega.{arith}
+use lib.ListN.{length, take}
+use Rattle.framing.specs.Scan.{Found, going, stop, note, run, out, Quiet, scan}
+
+module _ {S : Type 0} (step : S → ℕ → S) where
+  pub run-append : (s : S) (xs ys : List ℕ) → run step s (xs ++ ys) ≡ run step (run step s xs) ys
+  run-append s [] ys = refl
+  run-append s (b ∷ xs) ys = run-append (step s b) xs ys
+
+  -- one step of a run, where `rw` does not see the call
+  pub run-step : (s : S) {s′ : S} (b : ℕ) (xs : List ℕ) → step s b ≡ s′ → run step s (b ∷ xs) ≡ run step s′ xs
+  run-step s b xs e = ap (λ (z : S). run step z xs) e
+
+  -- a run that ends alive was alive all along
+  pub run-live : (live : S → Bool) → ((s : S) (b : ℕ) → live s ≡ false → live (step s b) ≡ false)
+      → (s : S) (xs : List ℕ) → live (run step s xs) ≡ true → live s ≡ true
+  run-live live dead s [] h = h
+  run-live live dead s (b ∷ xs) h = go (run-live live dead (step s b) xs h) (live s) refl
+    where
+      go : live (step s b) ≡ true → (t : Bool) → live s ≡ t → t ≡ true
+      go below true e = refl
+      go below false e = sym (dead s b e) ∙ below
+
+  pub out-append : (emit : S → ℕ → List ℕ) (s : S) (xs ys : List ℕ)
+      → out step emit s (xs ++ ys) ≡ out step emit s xs ++ out step emit (run step s xs) ys
+  out-append emit s [] ys = refl
+  out-append emit s (b ∷ xs) ys = rw (out-append emit (step s b) xs ys, append-assoc)
+
+module _ {S W : Type 0} (step : S → ℕ → S) (judge : S → Option W) where
+  -- the byte at j gets the first verdict
+  pub record Stops (s : S) (xs : List ℕ) (j : ℕ) (v : W) : Type 0 where
+    pub inside : j < length xs
+    pub quiet : Quiet step judge s xs j
+    pub verdict : judge (run step s (take (suc j) xs)) ≡ some v
+
+  quiet-nil : (s : S) (n : ℕ) → judge s ≡ none → Quiet step judge s [] n
+  quiet-nil s n h zero l = h
+  quiet-nil s n h (suc i) l = h
+
+  quiet-cons : (s : S) (b : ℕ) (xs : List ℕ) (n : ℕ) → judge s ≡ none → Quiet step judge (step s b) xs n → Quiet step judge s (b ∷ xs) (suc n)
+  quiet-cons s b xs n h k zero l = h
+  quiet-cons s b xs n h k (suc i) l = k i (omega arith)
+
+  quiet-zero : (s : S) (xs : List ℕ) → judge s ≡ none → Quiet step judge s xs 0
+  quiet-zero s xs h zero l = h
+  quiet-zero s xs h (suc i) l = absurd (omega arith)
+
+  pub quiet-on : (s : S) (xs : List ℕ) (n : ℕ) → Quiet step judge s xs n → judge (run step s (take (suc n) xs)) ≡ none → Quiet step judge s xs (suc n)
+  quiet-on s xs n k h i l = go (ℕ-discrete i (suc n))
+    where
+      go : Dec (i ≡ suc n) → judge (run step s (take i xs)) ≡ none
+      go (yes e) = subst (λ (m : ℕ). judge (run step s (take m xs)) ≡ none) (sym e) h
+      go (no e) = k i (omega arith)
+
+  -- ## What a scan's finding says of the input
+  Tells : S → ℕ → List ℕ → Found W → Type 0
+  Tells s i xs going = Quiet step judge s xs (length xs)
+  Tells s i xs (stop j v) = (k : ℕ) × (j ≡ i + k) × Stops s xs k v
+
+  later : (s : S) (i b : ℕ) (xs : List ℕ) (r : Found W) → judge s ≡ none → Tells (step s b) (suc i) xs r → Tells s i (b ∷ xs) r
+  unfolding Tells
+  later s i b xs going h t = quiet-cons s b xs (length xs) h t
+  later s i b xs (stop j v) h t = (
+    suc (t .0),
+    omega (arith, t .1),
+    record {
+      inside = omega (arith, t .2 .inside);
+      quiet = quiet-cons s b xs (t .0) h (t .2 .quiet);
+      verdict = t .2 .verdict;
+    },
+  )
+
+  here : (s : S) (i b : ℕ) (xs : List ℕ) (r : Found W) (o : Option W) → judge s ≡ none → judge (step s b) ≡ o
+      → (judge (step s b) ≡ none → Tells (step s b) (suc i) xs r) → Tells s i (b ∷ xs) (note i o r)
+  unfolding Tells
+  here s i b xs r none h k t = later s i b xs r h (t k)
+  here s i b xs r (some v) h k t = (0, omega arith, record { inside = omega arith; quiet = quiet-zero s (b ∷ xs) h; verdict = k })
+
+  tells : (s : S) (i : ℕ) (xs : List ℕ) → judge s ≡ none → Tells s i xs (scan step judge s i xs)
+  unfolding Tells
+  tells s i [] h = quiet-nil s 0 h
+  tells s i (b ∷ xs) h =
+      here s i b xs (scan step judge (step s b) (suc i) xs) (judge (step s b)) h refl (λ k. tells (step s b) (suc i) xs k)
+
+  module _ (s : S) (xs : List ℕ) (h : judge s ≡ none) where
+    pub going-quiet : scan step judge s 0 xs ≡ going → Quiet step judge s xs (length xs)
+    unfolding Tells
+    going-quiet e = subst (Tells s 0 xs) e (tells s 0 xs h)
+
+    pub stop-stops : (j : ℕ) (v : W) → scan step judge s 0 xs ≡ stop j v → Stops s xs j v
+    unfolding Tells
+    stop-stops j v e =
+        let t : (k : ℕ) × (j ≡ 0 + k) × Stops s xs k v = subst (Tells s 0 xs) e (tells s 0 xs h) in
+        let z : t .0 ≡ j = omega (arith, t .1) in
+        subst (λ (k : ℕ). Stops s xs k v) z (t .2)
+
+    -- ## and it decides what a scan finds
+    clash : {A : Type 0} {v : W} → none ≡ some v → A
+    clash e = let z : _≡_ {A = ℕ} 0 1 = cc in absurd (omega arith)
+
+    pub quiet-going : Quiet step judge s xs (length xs) → scan step judge s 0 xs ≡ going
+    quiet-going q = go (scan step judge s 0 xs) refl
+      where
+        go : (r : Found W) → scan step judge s 0 xs ≡ r → r ≡ going
+        go going e = refl
+        go (stop j v) e = let t : Stops s xs j v = stop-stops j v e in clash (sym (q (suc j) (t .inside)) ∙ t .verdict)
+
+    pub stops-stop : (j : ℕ) (v : W) → Stops s xs j v → scan step judge s 0 xs ≡ stop j v
+    stops-stop j v t = go (scan step judge s 0 xs) refl
+      where
+        at : (i : ℕ) (w : W) → Stops s xs i w → Dec (i ≡ j) → Dec (i < j) → stop i w ≡ stop j v
+        at i w u (yes e) d =
+            let x : judge (run step s (take (suc j) xs)) ≡ some w
+            = subst (λ (m : ℕ). judge (run step s (take (suc m) xs)) ≡ some w) e (u .verdict) in
+            let y : some w ≡ some v = sym x ∙ t .verdict in
+            cc
+        at i w u (no e) (yes l) = clash (sym (t .quiet (suc i) l) ∙ u .verdict)
+        at i w u (no e) (no l) = clash (sym (u .quiet (suc j) (omega arith)) ∙ t .verdict)
+
+        go : (r : Found W) → scan step judge s 0 xs ≡ r → r ≡ stop j v
+        go going e = clash (sym (going-quiet e (suc j) (t .inside)) ∙ t .verdict)
+        go (stop i w) e = at i w (stop-stops i w e) (ℕ-discrete i j) (decLt i j)
+
+  -- ## A verdict stands in every longer input
+  stands-here : (i : ℕ) (o : Option W) (r r′ : Found W) (j : ℕ) (v : W) → (r ≡ stop j v → r′ ≡ stop j v)
+      → note i o r ≡ stop j v → note i o r′ ≡ stop j v
+  stands-here i none r r′ j v h e = h e
+  stands-here i (some w) r r′ j v h e = e
+
+  pub stands : (s : S) (i : ℕ) (xs ys : List ℕ) (j : ℕ) (v : W) → scan step judge s i xs ≡ stop j v → scan step judge s i (xs ++ ys) ≡ stop j v
+  stands s i [] ys j v e = let z : _≡_ {A = ℕ} 0 1 = cc in absurd (omega arith)
+  stands s i (b ∷ xs) ys j v e =
+      stands-here i (judge (step s b)) (scan step judge (step s b) (suc i) xs) (scan step judge (step s b) (suc i) (xs ++ ys)) j v
+      (λ h. stands (step s b) (suc i) xs ys j v h) e
+
+-- ## Two judges that differ only where the first gives one verdict
+module _ {S W : Type 0} (step : S → ℕ → S) (judge judge′ : S → Option W) (w : W)
+    (agree : (s : S) → (judge s ≡ some w) ⊎ (judge′ s ≡ judge s)) where
+  same-note : (i : ℕ) (o : Option W) (r r′ : Found W) → ((j : ℕ) → note i o r ≡ stop j w → ⊥)
+      → (((j : ℕ) → r ≡ stop j w → ⊥) → r′ ≡ r) → note i o r′ ≡ note i o r
+  same-note i none r r′ f h = h f
+  same-note i (some v) r r′ f h = refl
+
+  pub same-scan : (s : S) (i : ℕ) (xs : List ℕ) → ((j : ℕ) → scan step judge s i xs ≡ stop j w → ⊥) → scan step judge′ s i xs ≡ scan step judge s i xs
+  same-scan s i [] f = refl
+  same-scan s i (b ∷ xs) f =
+      ⊎-elim
+      (λ (e : judge (step s b) ≡ some w). absurd (f i (ap (λ (o : Option W). note i o (scan step judge (step s b) (suc i) xs)) e)))
+      (λ (e : judge′ (step s b) ≡ judge (step s b)).
+      ap (λ (o : Option W). note i o (scan step judge′ (step s b) (suc i) xs)) e
+      ∙ same-note i (judge (step s b)) (scan step judge (step s b) (suc i) xs) (scan step judge′ (step s b) (suc i) xs) f
+      (λ g. same-scan (step s b) (suc i) xs g))
+      (agree (step s b))

@@ -1,0 +1,108 @@
+-- Chunked bodies by RFC 2616 3.6.1 with document 01's rules, limits aside: which bytes are one, and what data it carries.
+-- Then the part of a body in which a byte stands, and the limits. Definitions alone; no machine stands here.
+use mathlib.Core.Path.{_≡_}
+use mathlib.Core.Bool.{Bool, true}
+use mathlib.Core.List.{List, [], _∷_, _++_}
+use Prim.Native.Nat.{ℕ, suc, _+_, _*_, _<_, _≤_}
+use lib.ListN.{length}
+use Rattle.octets.specs.Bytes.{hex?, hex-value, token?, text?, escaped?, content?, octet?}
+
+-- ## Parts
+
+-- any number of bytes, each of which passes the test
+pub data Many (p : ℕ → Bool) : List ℕ → Type 0 where
+  none : Many p []
+  more : {b : ℕ} {xs : List ℕ} → p b ≡ true → Many p xs → Many p (b ∷ xs)
+
+-- one or more
+pub data Some (p : ℕ → Bool) : List ℕ → Type 0 where
+  some : {b : ℕ} {xs : List ℕ} → p b ≡ true → Many p xs → Some p (b ∷ xs)
+
+abbrev pub Token : List ℕ → Type 0
+Token xs = Some token? xs
+
+-- the number that hex digits go on to from v, the first digit foremost
+abbrev pub valueFrom : ℕ → List ℕ → ℕ
+valueFrom v [] = v
+valueFrom v (b ∷ xs) = valueFrom (v * 16 + hex-value b) xs
+
+-- "hex digits of either case", with their value
+pub data Size : List ℕ → ℕ → Type 0 where
+  size : {xs : List ℕ} → Some hex? xs → Size xs (valueFrom 0 xs)
+
+-- what stands between the quotes of a quoted string
+pub data Inside : List ℕ → Type 0 where
+  end : Inside []
+  text : {b : ℕ} {xs : List ℕ} → text? b ≡ true → Inside xs → Inside (b ∷ xs)
+  pair : {b : ℕ} {xs : List ℕ} → escaped? b ≡ true → Inside xs → Inside (92 ∷ b ∷ xs)
+
+-- "a token or quoted string"
+pub data Value : List ℕ → Type 0 where
+  token : {xs : List ℕ} → Token xs → Value xs
+  quoted : {xs : List ℕ} → Inside xs → Value (34 ∷ (xs ++ (34 ∷ [])))
+
+-- "`;` token, optionally `=` and a token or quoted string, no blanks"
+pub data Extension : List ℕ → Type 0 where
+  bare : {n : List ℕ} → Token n → Extension (59 ∷ n)
+  valued : {n v : List ℕ} → Token n → Value v → Extension (59 ∷ (n ++ (61 ∷ v)))
+
+pub data Extensions : List ℕ → Type 0 where
+  none : Extensions []
+  more : {e es : List ℕ} → Extension e → Extensions es → Extensions (e ++ es)
+
+-- "The chunk line is what stands before its CR": a size and extensions, with the value of the size
+pub data Line : List ℕ → ℕ → Type 0 where
+  line : {s e : List ℕ} {v : ℕ} → Size s v → Extensions e → Line (s ++ e) v
+
+-- "Trailer line: token, `:`, any of HT, 32 to 126, 128 to 255, then CRLF"; any number of them
+pub data Trailer : List ℕ → Type 0 where
+  none : Trailer []
+  more : {n f t : List ℕ} → Token n → Many content? f → Trailer t → Trailer (n ++ (58 ∷ (f ++ (13 ∷ 10 ∷ t))))
+
+-- ## Bodies
+
+-- "hex digits of either case with value above zero, extensions, CRLF, that many bytes, CRLF"
+pub data Chunk : List ℕ → List ℕ → Type 0 where
+  chunk : {l x : List ℕ} → Line l (length x) → 0 < length x → Many octet? x → Chunk (l ++ (13 ∷ 10 ∷ (x ++ (13 ∷ 10 ∷ [])))) x
+
+-- chunks one after the other, with their joined data
+pub data Chunks : List ℕ → List ℕ → Type 0 where
+  none : Chunks [] []
+  more : {c d e x : List ℕ} → Chunks c d → Chunk e x → Chunks (c ++ e) (d ++ x)
+
+-- "A size of value zero begins the last chunk, which has no data; then trailer lines, then CRLF"
+pub data Body : List ℕ → List ℕ → Type 0 where
+  body : {c d l t : List ℕ} → Chunks c d → Line l 0 → Trailer t → Body (c ++ (l ++ (13 ∷ 10 ∷ (t ++ (13 ∷ 10 ∷ []))))) d
+
+-- ## Where a byte stands
+-- "The bytes up to and with a byte decide which part of a body it stands in." In each, p is these bytes.
+
+-- p ends in a chunk line, of which it has the bytes l
+pub data InLine : List ℕ → List ℕ → Type 0 where
+  inLine : {c d l : List ℕ} (u : List ℕ) {v : ℕ} → Chunks c d → Line (l ++ u) v → InLine (c ++ l) l
+
+-- p ends with a size digit, behind chunks with t bytes of data; v is the value of the digits before it, w with it
+pub data AtDigit : List ℕ → ℕ → ℕ → ℕ → Type 0 where
+  atDigit : {c d l : List ℕ} (b : ℕ) → Chunks c d → Many hex? l → hex? b ≡ true
+      → AtDigit (c ++ (l ++ (b ∷ []))) (length d) (valueFrom 0 l) (valueFrom 0 (l ++ (b ∷ [])))
+
+-- p ends in the trailer, "all bytes of trailer lines, CR and LF included, without the closing CRLF", of which it has the bytes t
+pub data InTrailer : List ℕ → List ℕ → Type 0 where
+  inTrailer : {c d l t : List ℕ} (u : List ℕ) → Chunks c d → Line l 0 → Trailer (t ++ u) → InTrailer (c ++ (l ++ (13 ∷ 10 ∷ t))) t
+
+-- ## Limits
+
+abbrev pub LINE_LIMIT : ℕ
+LINE_LIMIT = 1024
+
+abbrev pub TRAILER_LIMIT : ℕ
+TRAILER_LIMIT = 8192
+
+-- the last byte of these breaks the limit of that number, in that room
+pub data Broken (room : ℕ) : ℕ → List ℕ → Type 0 where
+  -- row 5: "chunk line above 1,024 bytes", at "its byte 1,025"
+  longLine : {p l : List ℕ} → InLine p l → length l ≡ suc LINE_LIMIT → Broken room 5 p
+  -- row 6: "trailer above 8,192 bytes", at "its byte 8,193"
+  longTrailer : {p t : List ℕ} → InTrailer p t → length t ≡ suc TRAILER_LIMIT → Broken room 6 p
+  -- row 7: "the digit with which finished chunks plus the value read so far pass" the room
+  noRoom : {p : List ℕ} {t v w : ℕ} → AtDigit p t v w → t + v ≤ room → room < t + w → Broken room 7 p

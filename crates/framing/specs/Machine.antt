@@ -1,0 +1,186 @@
+-- A machine that reads a chunked body a byte at a time. Definitions alone.
+use mathlib.Core.Bool.{Bool, true, false, _&&_, not, cond}
+use mathlib.Core.List.{List, [], _∷_, _++_}
+use mathlib.Core.Option.{Option, none, some}
+use Prim.Native.Nat.{ℕ, zero, suc, _+_, _*_, _≤_}
+use lib.Dec.{leb, ltb, eqb}
+use Rattle.octets.specs.Bytes.{octet?, hex?, hex-value, token?, text?, escaped?, content?}
+use Rattle.framing.specs.Grammar.{LINE_LIMIT, TRAILER_LIMIT}
+use Rattle.framing.specs.declared.ExtPos.{ExtPos}
+use Rattle.framing.specs.declared.ExtPos.the-variants as ExtPos
+use Rattle.framing.specs.declared.LinePos.{LinePos}
+use Rattle.framing.specs.declared.LinePos.the-variants.{First, Size, Ext}
+use Rattle.framing.specs.declared.TrailPos.{TrailPos}
+use Rattle.framing.specs.declared.TrailPos.the-variants.{Start, Field, Content, Feed, Wrong}
+use Rattle.framing.specs.declared.State.{State}
+use Rattle.framing.specs.declared.State.the-variants.{Line, LineFeed, Data, DataCr, DataLf, Trail, EndLf, Done, Dead}
+
+-- ## Extensions: after a whole one, in a name, in a value
+abbrev pub extStep : ExtPos → ℕ → ExtPos
+extStep ExtPos.Between b = cond (eqb b 59) ExtPos.Name0 ExtPos.Bad
+extStep ExtPos.Name0 b = cond (token? b) ExtPos.Name ExtPos.Bad
+extStep ExtPos.Name b = cond (token? b) ExtPos.Name (cond (eqb b 61) ExtPos.Value0 (cond (eqb b 59) ExtPos.Name0 ExtPos.Bad))
+extStep ExtPos.Value0 b = cond (token? b) ExtPos.Token (cond (eqb b 34) ExtPos.Quoted ExtPos.Bad)
+extStep ExtPos.Token b = cond (token? b) ExtPos.Token (cond (eqb b 59) ExtPos.Name0 ExtPos.Bad)
+extStep ExtPos.Quoted b = cond (text? b) ExtPos.Quoted (cond (eqb b 92) ExtPos.Pair (cond (eqb b 34) ExtPos.Between ExtPos.Bad))
+extStep ExtPos.Pair b = cond (escaped? b) ExtPos.Quoted ExtPos.Bad
+extStep ExtPos.Bad b = ExtPos.Bad
+
+-- may the line end here
+abbrev pub extEnds : ExtPos → Bool
+extEnds ExtPos.Between = true
+extEnds ExtPos.Name0 = false
+extEnds ExtPos.Name = true
+extEnds ExtPos.Value0 = false
+extEnds ExtPos.Token = true
+extEnds ExtPos.Quoted = false
+extEnds ExtPos.Pair = false
+extEnds ExtPos.Bad = false
+
+abbrev pub extLive : ExtPos → Bool
+extLive ExtPos.Between = true
+extLive ExtPos.Name0 = true
+extLive ExtPos.Name = true
+extLive ExtPos.Value0 = true
+extLive ExtPos.Token = true
+extLive ExtPos.Quoted = true
+extLive ExtPos.Pair = true
+extLive ExtPos.Bad = false
+
+-- ## A chunk line, its CR left out
+unfoldable pub lineStep : LinePos → ℕ → LinePos
+lineStep First b = cond (hex? b) (Size (0 * 16 + hex-value b)) (Ext 0 ExtPos.Bad)
+lineStep (Size v) b = cond (hex? b) (Size (v * 16 + hex-value b)) (Ext v (extStep ExtPos.Between b))
+lineStep (Ext v e) b = Ext v (extStep e b)
+
+unfoldable pub lineLive : LinePos → Bool
+lineLive First = true
+lineLive (Size v) = true
+lineLive (Ext v e) = extLive e
+
+-- the size that a line gives which ends here
+unfoldable pub lineEnds : LinePos → Option ℕ
+lineEnds First = none
+lineEnds (Size v) = some v
+lineEnds (Ext v e) = cond (extEnds e) (some v) none
+
+-- ## Trailer lines, the closing CR LF left out
+abbrev pub trailStep : TrailPos → ℕ → TrailPos
+trailStep Start b = cond (token? b) Field Wrong
+trailStep Field b = cond (token? b) Field (cond (eqb b 58) Content Wrong)
+trailStep Content b = cond (content? b) Content (cond (eqb b 13) Feed Wrong)
+trailStep Feed b = cond (eqb b 10) Start Wrong
+trailStep Wrong b = Wrong
+
+abbrev pub trailLive : TrailPos → Bool
+trailLive Start = true
+trailLive Field = true
+trailLive Content = true
+trailLive Feed = true
+trailLive Wrong = false
+
+abbrev pub trailEnds : TrailPos → Bool
+trailEnds Start = true
+trailEnds Field = false
+trailEnds Content = false
+trailEnds Feed = false
+trailEnds Wrong = false
+
+-- ## The body
+-- Line p k t: in a chunk line at p, after k bytes of it, with t bytes of data in the chunks before.
+-- LineFeed v t: after the CR of a line that gives v. Data m t: in data, m bytes after the next one; t has the whole chunk.
+-- DataCr, DataLf: before the CR, the LF after data. Trail p k t: in the trailer at p, after k bytes of it. EndLf: before the last LF.
+
+unfoldable pub leaveLine : Option ℕ → ℕ → State
+leaveLine none t = Dead
+leaveLine (some v) t = LineFeed v t
+
+unfoldable pub enterChunk : ℕ → ℕ → State
+enterChunk zero t = Trail Start 0 t
+enterChunk (suc m) t = Data m (t + suc m)
+
+unfoldable pub step : State → ℕ → State
+step (Line p k t) b = cond (eqb b 13) (leaveLine (lineEnds p) t) (Line (lineStep p b) (suc k) t)
+step (LineFeed v t) b = cond (eqb b 10) (enterChunk v t) Dead
+step (Data zero t) b = cond (octet? b) (DataCr t) Dead
+step (Data (suc m) t) b = cond (octet? b) (Data m t) Dead
+step (DataCr t) b = cond (eqb b 13) (DataLf t) Dead
+step (DataLf t) b = cond (eqb b 10) (Line First 0 t) Dead
+step (Trail p k t) b = cond (trailEnds p && eqb b 13) (EndLf t) (Trail (trailStep p b) (suc k) t)
+step (EndLf t) b = cond (eqb b 10) (Done t) Dead
+step (Done t) b = Dead
+step Dead b = Dead
+
+-- the data that a byte is
+unfoldable pub emit : State → ℕ → List ℕ
+emit (Line p k t) b = []
+emit (LineFeed v t) b = []
+emit (Data m t) b = b ∷ []
+emit (DataCr t) b = []
+emit (DataLf t) b = []
+emit (Trail p k t) b = []
+emit (EndLf t) b = []
+emit (Done t) b = []
+emit Dead b = []
+
+unfoldable pub live : State → Bool
+live (Line p k t) = lineLive p
+live (LineFeed v t) = true
+live (Data m t) = true
+live (DataCr t) = true
+live (DataLf t) = true
+live (Trail p k t) = trailLive p
+live (EndLf t) = true
+live (Done t) = true
+live Dead = false
+
+-- the body that has ended, by the length of its data
+unfoldable pub done : State → Option ℕ
+done (Line p k t) = none
+done (LineFeed v t) = none
+done (Data m t) = none
+done (DataCr t) = none
+done (DataLf t) = none
+done (Trail p k t) = none
+done (EndLf t) = none
+done (Done t) = some t
+done Dead = none
+
+-- ## Limits: the lowest that is broken by the byte which led to a state
+
+-- finished chunks and the size read so far pass the room
+unfoldable pub pastRoom : ℕ → LinePos → ℕ → Option ℕ
+pastRoom room First t = none
+pastRoom room (Size v) t = cond (ltb room (t + v)) (some 7) none
+pastRoom room (Ext v e) t = none
+
+unfoldable pub over : ℕ → State → Option ℕ
+over room (Line p k t) = cond (eqb k (suc LINE_LIMIT)) (some 5) (pastRoom room p t)
+over room (LineFeed v t) = none
+over room (Data m t) = none
+over room (DataCr t) = none
+over room (DataLf t) = none
+over room (Trail p k t) = cond (eqb k (suc TRAILER_LIMIT)) (some 6) none
+over room (EndLf t) = none
+over room (Done t) = none
+over room Dead = none
+
+unfoldable pub sizeOf : LinePos → ℕ
+sizeOf First = 0
+sizeOf (Size v) = v
+sizeOf (Ext v e) = v
+
+-- a state whose numbers are within the limits
+unfoldable pub InRoom : ℕ → State → Type 0
+InRoom room (Line p k t) = (k ≤ LINE_LIMIT) × (t + sizeOf p ≤ room)
+InRoom room (LineFeed v t) = t + v ≤ room
+InRoom room (Data m t) = t ≤ room
+InRoom room (DataCr t) = t ≤ room
+InRoom room (DataLf t) = t ≤ room
+InRoom room (Trail p k t) = (k ≤ TRAILER_LIMIT) × (t ≤ room)
+InRoom room (EndLf t) = t ≤ room
+InRoom room (Done t) = t ≤ room
+InRoom room Dead = Unit {0}
+
+abbrev pub start : State
+start = Line First 0 0

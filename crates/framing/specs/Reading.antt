@@ -1,0 +1,25 @@
+-- What the reader of a chunked body answers in a room, and which bytes it writes: definitions that compute.
+use mathlib.Core.List.{List, _++_}
+use mathlib.Core.Option.{Option}
+use Prim.Native.Nat.{ℕ}
+use lib.ListN.{length, drop}
+use Rattle.framing.specs.declared.State.{State}
+use Rattle.framing.specs.Answer.{Answer}
+use Rattle.framing.specs.Scan.{Verdict, judgeBy, scan, out, answer, written}
+use Rattle.framing.specs.Machine.{step, emit, live, done, over, start}
+
+-- the verdict on the byte that led to a state
+unfoldable pub judge : ℕ → State → Option Verdict
+judge room s = judgeBy (live s) (done s) (over room s)
+
+-- the answer on these bytes
+unfoldable pub decode : ℕ → List ℕ → Answer
+decode room xs = answer (scan step (judge room) start 0 xs)
+
+-- the data that it writes
+unfoldable pub decoded : ℕ → List ℕ → List ℕ
+decoded room xs = written (out step emit start) (decode room xs) xs
+
+-- the lent bytes after the answer: the data at the front, then what stood there
+unfoldable pub after : List ℕ → List ℕ → List ℕ
+after xs old = decoded (length old) xs ++ drop (length (decoded (length old) xs)) old

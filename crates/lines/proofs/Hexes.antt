@@ -1,0 +1,200 @@
+-- Hex digits: their values, runs of them, and digits two by two.
+use mathlib.Core.Path.{_≡_, refl, sym, _∙_, ap, ap₂, subst}
+use mathlib.Core.Bool.{Bool, true, false, _&&_, _||_, cond}
+use mathlib.Core.List.{List, [], _∷_, _++_}
+use mathlib.Core.Logic.{_⊎_, inl, inr, ⊎-elim}
+use mathlib.Core.Option.{Option, none, some}
+use Prim.Native.Nat.{ℕ, zero, suc, _+_, _-_, _*_, _/_, _%_, _<_, _≤_}
+use native.Mathlib.Numerals.{add-one}
+use native.Mathlib.Omega.{arith}
+use lib.Dec.{leb, ltb}
+use lib.ListN.{length, getD, drop}
+use lib.Seq.{drop-cons}
+use borrow.Author.Tests.{leb-true, le-leb, lt-leb, lt-ltb, le-ltb}
+use Rattle.octets.specs.Bytes.{within, hex?, hex-value}
+use Rattle.numerals.specs.Numeral.{every}
+use Rattle.numerals.proofs.Digits.{split, at-true, at-false}
+use Rattle.lines.specs.Grammar.{DIGIT_LIMIT}
+use Rattle.lines.specs.Pairs.{pairs}
+use Rattle.lines.specs.declared.Hex.{Hex}
+use Rattle.lines.specs.declared.Hex.the-variants.{Bytes, Bad}
+use Rattle.lines.specs.Reading.{before, bytes-of, within-room, spelled, answer, filled}
+
+pub false-true : {A : Type 0} → false ≡ true → A
+false-true e = let z : _≡_ {A = ℕ} 0 1 = cc in absurd (omega arith)
+
+left : (s t : Bool) → (s && t) ≡ true → s ≡ true
+left true t e = refl
+left false t e = e
+
+right : (s t : Bool) → (s && t) ≡ true → t ≡ true
+right true t e = e
+right false t e = false-true e
+
+either : (s t : Bool) → (s || t) ≡ true → (s ≡ true) ⊎ (t ≡ true)
+either true t e = inl refl
+either false t e = inr e
+
+-- ## Values
+low : (lo hi b : ℕ) → within lo hi b ≡ true → lo ≤ b
+low lo hi b e = leb-true lo b (left (leb lo b) (leb b hi) e)
+
+high : (lo hi b : ℕ) → within lo hi b ≡ true → b ≤ hi
+high lo hi b e = leb-true b hi (right (leb lo b) (leb b hi) e)
+
+digit-value : (b : ℕ) → b ≤ 57 → hex-value b ≡ b - 48
+digit-value b h = at-true (leb b 57) (b - 48) (cond (leb b 70) (b - 55) (b - 87)) (le-leb b 57 h)
+
+capital-value : (b : ℕ) → 57 < b → b ≤ 70 → hex-value b ≡ b - 55
+capital-value b l h = at-false (leb b 57) (b - 48) (cond (leb b 70) (b - 55) (b - 87)) (lt-leb b 57 l) ∙ at-true (leb b 70) (b - 55) (b - 87) (le-leb b 70 h)
+
+small-value : (b : ℕ) → 70 < b → hex-value b ≡ b - 87
+small-value b l = at-false (leb b 57) (b - 48) (cond (leb b 70) (b - 55) (b - 87)) (lt-leb b 57 (omega arith)) ∙ at-false (leb b 70) (b - 55) (b - 87) (lt-leb b 70 l)
+
+pub value-small : (b : ℕ) → hex? b ≡ true → hex-value b < 16
+unfolding hex?
+value-small b e = ⊎-elim
+    (λ (d : within 48 57 b ≡ true). omega (arith, low 48 57 b d, high 48 57 b d, digit-value b (high 48 57 b d)))
+    (λ (l : (within 65 70 b || within 97 102 b) ≡ true). ⊎-elim
+    (λ (d : within 65 70 b ≡ true). omega (arith, high 65 70 b d, capital-value b (omega (arith, low 65 70 b d)) (high 65 70 b d)))
+    (λ (d : within 97 102 b ≡ true). omega (arith, high 97 102 b d, small-value b (omega (arith, low 97 102 b d))))
+    (either (within 65 70 b) (within 97 102 b) l))
+    (either (within 48 57 b) (within 65 70 b || within 97 102 b) e)
+
+-- a value of 16 says that the byte is no digit
+pub no-digit : (b r : ℕ) → r ≡ cond (hex? b) (hex-value b) 16 → r ≡ 16 → hex? b ≡ false
+no-digit b r e h = split (hex? b)
+    (λ t. absurd (omega (arith, e ∙ at-true (hex? b) (hex-value b) 16 t, value-small b t)))
+    (λ t. t)
+
+pub digit : (b r : ℕ) → r ≡ cond (hex? b) (hex-value b) 16 → (r ≡ 16 → ⊥) → hex? b ≡ true
+digit b r e f = split (hex? b) (λ t. t) (λ t. absurd (f (e ∙ at-false (hex? b) (hex-value b) 16 t)))
+
+pub value-is : (b r : ℕ) → r ≡ cond (hex? b) (hex-value b) 16 → hex? b ≡ true → r ≡ hex-value b
+value-is b r e t = e ∙ at-true (hex? b) (hex-value b) 16 t
+
+-- ## Runs
+module _ (xs : List ℕ) (i : ℕ) (h : i < length xs) where
+  next : drop i xs ≡ getD xs i 0 ∷ drop (i + 1) xs
+  next = drop-cons xs i 0 h ∙ ap (λ (k : ℕ). getD xs i 0 ∷ drop k xs) (sym (add-one i))
+
+  pub every-on : (p : ℕ → Bool) → p (getD xs i 0) ≡ true → every p (drop (i + 1) xs) ≡ every p (drop i xs)
+  every-on p e = sym (ap (every p) next ∙ ap (λ (t : Bool). t && every p (drop (i + 1) xs)) e)
+
+  pub every-stops : (p : ℕ → Bool) → p (getD xs i 0) ≡ false → every p (drop i xs) ≡ false
+  every-stops p e = ap (every p) next ∙ ap (λ (t : Bool). t && every p (drop (i + 1) xs)) e
+
+pub every-at : (p : ℕ → Bool) (xs : List ℕ) (i : ℕ) → every p xs ≡ true → i < length xs → p (getD xs i 0) ≡ true
+every-at p [] i e h = absurd (omega arith)
+every-at p (x ∷ xs) zero e h = left (p x) (every p xs) e
+every-at p (x ∷ xs) (suc i) e h = every-at p xs i (right (p x) (every p xs) e) (omega arith)
+
+-- ## Two by two
+pub pairs-length : (xs : List ℕ) (n : ℕ) → length xs ≡ 2 * n → length (pairs xs) ≡ n
+pairs-length [] n e = omega arith
+pairs-length (a ∷ []) n e = absurd (omega arith)
+pairs-length (a ∷ b ∷ xs) zero e = absurd (omega arith)
+pairs-length (a ∷ b ∷ xs) (suc n) e = ap suc (pairs-length xs n (omega arith))
+
+pub pairs-at : (xs : List ℕ) (i : ℕ) → 2 * i + 1 < length xs → getD (pairs xs) i 0 ≡ hex-value (getD xs (2 * i) 0) * 16 + hex-value (getD xs (2 * i + 1) 0)
+pairs-at [] i h = absurd (omega arith)
+pairs-at (a ∷ []) i h = absurd (omega arith)
+pairs-at (a ∷ b ∷ xs) zero h = refl
+pairs-at (a ∷ b ∷ xs) (suc i) h =
+    let j : suc (suc (2 * i)) ≡ 2 * suc i = omega arith in
+    let k : suc (suc (2 * i + 1)) ≡ 2 * suc i + 1 = omega arith in
+    pairs-at xs i (omega arith)
+    ∙ ap₂ (λ (m n : ℕ). hex-value (getD (a ∷ b ∷ xs) m 0) * 16 + hex-value (getD (a ∷ b ∷ xs) n 0)) j k
+
+-- ## What a line spells
+even-some : (xs : List ℕ) (n : ℕ) → length xs ≡ 2 * n → every hex? xs ≡ true → bytes-of xs ≡ some (pairs xs)
+unfolding bytes-of
+even-some [] n l e = refl
+even-some (a ∷ []) n l e = absurd (omega arith)
+even-some (a ∷ b ∷ xs) zero l e = absurd (omega arith)
+even-some (a ∷ b ∷ xs) (suc n) l e =
+    let t : every hex? (b ∷ xs) ≡ true = right (hex? a) (every hex? (b ∷ xs)) e in
+    at-true (hex? a && hex? b) (before (hex-value a * 16 + hex-value b) (bytes-of xs)) none
+    (ap₂ (λ (s u : Bool). s && u) (left (hex? a) (every hex? (b ∷ xs)) e) (left (hex? b) (every hex? xs) t))
+    ∙ ap (before (hex-value a * 16 + hex-value b)) (even-some xs n (omega arith) (right (hex? b) (every hex? xs) t))
+
+odd-none : (xs : List ℕ) (n : ℕ) → length xs ≡ 2 * n + 1 → bytes-of xs ≡ none
+unfolding bytes-of
+odd-none [] n l = absurd (omega arith)
+odd-none (a ∷ []) n l = refl
+odd-none (a ∷ b ∷ xs) zero l = absurd (omega arith)
+odd-none (a ∷ b ∷ xs) (suc n) l = split (hex? a && hex? b)
+    (λ t. at-true (hex? a && hex? b) (before (hex-value a * 16 + hex-value b) (bytes-of xs)) none t
+    ∙ ap (before (hex-value a * 16 + hex-value b)) (odd-none xs n (omega arith)))
+    (λ t. at-false (hex? a && hex? b) (before (hex-value a * 16 + hex-value b) (bytes-of xs)) none t)
+
+other-none : (xs : List ℕ) → every hex? xs ≡ false → bytes-of xs ≡ none
+unfolding bytes-of
+other-none [] e = false-true (sym e)
+other-none (a ∷ []) e = refl
+other-none (a ∷ b ∷ xs) e = split (hex? a && hex? b)
+    (λ t. at-true (hex? a && hex? b) (before (hex-value a * 16 + hex-value b) (bytes-of xs)) none t
+    ∙ ap (before (hex-value a * 16 + hex-value b))
+    (other-none xs (later (hex? a) (hex? b) (every hex? xs) t e)))
+    (λ t. at-false (hex? a && hex? b) (before (hex-value a * 16 + hex-value b) (bytes-of xs)) none t)
+  where
+    later : (s t u : Bool) → (s && t) ≡ true → (s && (t && u)) ≡ false → u ≡ false
+    later true true u f g = g
+    later true false u f g = false-true f
+    later false t u f g = false-true f
+
+module _ (xs : List ℕ) (room : ℕ) where
+  pub too-many : DIGIT_LIMIT < length xs → spelled xs room ≡ none
+  unfolding spelled
+  too-many h = at-true (ltb DIGIT_LIMIT (length xs)) none (within-room room (bytes-of xs)) (lt-ltb DIGIT_LIMIT (length xs) h)
+
+  few : length xs ≤ DIGIT_LIMIT → spelled xs room ≡ within-room room (bytes-of xs)
+  unfolding spelled
+  few h = at-false (ltb DIGIT_LIMIT (length xs)) none (within-room room (bytes-of xs)) (le-ltb DIGIT_LIMIT (length xs) h)
+
+  pub odd : length xs ≤ DIGIT_LIMIT → (length xs % 2 ≡ 0 → ⊥) → spelled xs room ≡ none
+  odd h f = few h ∙ ap (within-room room) (odd-none xs (length xs / 2) (omega arith))
+
+  pub other : length xs ≤ DIGIT_LIMIT → every hex? xs ≡ false → spelled xs room ≡ none
+  other h e = few h ∙ ap (within-room room) (other-none xs e)
+
+  module _ (h : length xs ≤ DIGIT_LIMIT) (m : length xs % 2 ≡ 0) (e : every hex? xs ≡ true) where
+    halves : length xs ≡ 2 * (length xs / 2)
+    halves = omega arith
+
+    pub half : length (pairs xs) ≡ length xs / 2
+    half = pairs-length xs (length xs / 2) halves
+
+    pub no-room : room < length xs / 2 → spelled xs room ≡ none
+    no-room l = few h ∙ ap (within-room room) (even-some xs (length xs / 2) halves e)
+        ∙ at-true (ltb room (length (pairs xs))) none (some (pairs xs)) (lt-ltb room (length (pairs xs)) (omega (arith, half)))
+
+    pub good : length xs / 2 ≤ room → spelled xs room ≡ some (pairs xs)
+    good l = few h ∙ ap (within-room room) (even-some xs (length xs / 2) halves e)
+        ∙ at-false (ltb room (length (pairs xs))) none (some (pairs xs)) (le-ltb room (length (pairs xs)) (omega (arith, half)))
+
+-- ## A loop over pairs
+module _ (xs : List ℕ) (e : every hex? xs ≡ true) where
+  pub digit-below : (j r : ℕ) → j < length xs → r ≡ cond (hex? (getD xs j 0)) (hex-value (getD xs j 0)) 16 → r < 16
+  digit-below j r h v = omega (arith, value-is (getD xs j 0) r v (every-at hex? xs j e h), value-small (getD xs j 0) (every-at hex? xs j e h))
+
+  pub pair-is : (i j r s : ℕ) → j ≡ 2 * i → j + 1 < length xs
+      → r ≡ cond (hex? (getD xs j 0)) (hex-value (getD xs j 0)) 16 → s ≡ cond (hex? (getD xs (j + 1) 0)) (hex-value (getD xs (j + 1) 0)) 16
+      → getD (pairs xs) i 0 ≡ r * 16 + s
+  pair-is i j r s k h v w =
+      pairs-at xs i (omega arith)
+      ∙ ap (λ (m : ℕ). hex-value (getD xs m 0) * 16 + hex-value (getD xs (m + 1) 0)) (sym k)
+      ∙ ap₂ (λ (a b : ℕ). a * 16 + b) (sym (value-is (getD xs j 0) r v (every-at hex? xs j e (omega arith))))
+      (sym (value-is (getD xs (j + 1) 0) s w (every-at hex? xs (j + 1) e h)))
+
+-- ## What each answer has to show
+pub bad-is : (xs : List ℕ) (old : List ℕ) → spelled xs (length old) ≡ none
+    → (Bad ≡ answer (spelled xs (length old))) × (old ≡ filled (spelled xs (length old)) old)
+bad-is xs old e = (sym (ap answer e), sym (ap (λ (o : Option (List ℕ)). filled o old) e))
+
+pub good-is : (xs old part : List ℕ) (n : ℕ) → n ≡ length (pairs xs) → part ≡ pairs xs → spelled xs (length old) ≡ some (pairs xs)
+    → (Bytes n ≡ answer (spelled xs (length old))) × (part ++ drop n old ≡ filled (spelled xs (length old)) old)
+good-is xs old part n k p e = (
+  ap Bytes k ∙ sym (ap answer e),
+  ap₂ (λ (y : List ℕ) (m : ℕ). y ++ drop m old) p k ∙ sym (ap (λ (o : Option (List ℕ)). filled o old) e),
+)

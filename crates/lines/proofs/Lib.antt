@@ -1,0 +1,4 @@
+pub mod Hexes
+pub mod Ends
+pub mod Gathers
+pub mod Demands

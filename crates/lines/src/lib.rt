@@ -1,0 +1,121 @@
+// Lines of hexadecimal, for the programs: a line gathered from pieces of an input, and its digits as bytes.
+ghost use mathlib.Core.Path.{_≡_};
+ghost use mathlib.Core.Bool.{Bool, true};
+ghost use mathlib.Core.List.{_++_};
+ghost use Prim.Native.Nat.{ℕ, _+_, _*_, _≤_, min};
+ghost use lib.ListN.{length, drop};
+ghost use Rattle.octets.specs.Bytes.{hex?};
+ghost use Rattle.numerals.specs.Numeral.{every};
+ghost use Rattle.lines.specs.Reading.{line-end, line-with, gathering, spelled, answer, filled};
+ghost use Rattle.lines.specs.Pairs.{pairs};
+
+// The most digits that a line may have.
+pub const DIGIT_LIMIT: usize = 32768;
+
+// What a piece of the input adds to a line: how many of its bytes belong to the line, the LF included; how many bytes of the line are
+// held; and whether the line ended.
+pub struct Gathered {
+    pub taken: usize,
+    pub held: usize,
+    pub ended: bool,
+}
+
+// The bytes that a line spells, counted; or a bad line.
+pub enum Hex {
+    Bytes(usize),
+    Bad,
+}
+
+// The place of the first LF, or the length.
+pub fn line_end(s: &[u8]) -> usize
+    ensures { λ r. ⌜ r ≡ line-end (now (s .entry)) ⌝ }
+{
+    let mut i = 0;
+    while i < s.len() {
+        if s[i] == 10 {
+            return i;
+        }
+        i += 1;
+    }
+    i
+}
+
+// Adds the bytes of a piece, up to its LF, to the `held` bytes at the front of `line`. Those that do not fit are left out: a line that
+// is longer than `line` fills it.
+pub fn gather(piece: &[u8], line: &mut [u8], held: usize) -> Gathered
+    ensures answers { λ r. ⌜ r ≡ gathering (now (line .entry)) held (now (piece .entry)) ⌝ }
+    ensures writes { λ _. ⌜ now (line .exit) ≡ line-with (now (line .entry)) held (now (piece .entry)) ++ drop (length (line-with (now (line .entry)) held (now (piece .entry)))) (now (line .entry)) ⌝ }
+{
+    let e = line_end(piece);
+    let h = least(held, line.len());
+    let k = least(e, line.len() - h);
+    let held = text::put_bytes(&piece[..k], line, h);
+    if e < piece.len() {
+        Gathered {
+            taken: e + 1,
+            held,
+            ended: true,
+        }
+    } else {
+        Gathered {
+            taken: e,
+            held,
+            ended: false,
+        }
+    }
+}
+
+// Puts the bytes that a line spells at the front of `out`, and keeps the rest. A bad line leaves `out` as it was.
+pub fn from_hex(line: &[u8], out: &mut [u8]) -> Hex
+    ensures answers { λ r. ⌜ r ≡ answer (spelled (now (line .entry)) (length (now (out .entry)))) ⌝ }
+    ensures writes { λ _. ⌜ now (out .exit) ≡ filled (spelled (now (line .entry)) (length (now (out .entry)))) (now (out .entry)) ⌝ }
+{
+    if line.len() > DIGIT_LIMIT {
+        return Hex::Bad;
+    }
+    if line.len() % 2 != 0 {
+        return Hex::Bad;
+    }
+    if !all_hex(line) {
+        return Hex::Bad;
+    }
+    let n = line.len() / 2;
+    if n > out.len() {
+        return Hex::Bad;
+    }
+    put_pairs(line, &mut out[..n]);
+    Hex::Bytes(n)
+}
+
+fn all_hex(line: &[u8]) -> bool
+    ensures { λ r. ⌜ r ≡ every hex? (now (line .entry)) ⌝ }
+{
+    let mut i = 0;
+    while i < line.len() {
+        if octets::hex_value(line[i]) == 16 {
+            return false;
+        }
+        i += 1;
+    }
+    true
+}
+
+// Fills `out` with the bytes of two digits each.
+fn put_pairs(line: &[u8], out: &mut [u8])
+    requires { ⌜ (length (now line) ≡ 2 * length (now out)) × (every hex? (now line) ≡ true) ⌝ }
+    ensures { λ _. ⌜ now (out .exit) ≡ pairs (now (line .entry)) ⌝ }
+{
+    let mut i = 0;
+    let mut j = 0;
+    while i < out.len() {
+        out[i] = octets::hex_value(line[j]) * 16 + octets::hex_value(line[j + 1]);
+        i += 1;
+        j += 2;
+    }
+}
+
+fn least(a: usize, b: usize) -> usize
+    ensures { λ r. ⌜ r ≡ min a b ⌝ }
+{
+    if a < b { a } else { b }
+}
