@@ -1,9 +1,12 @@
 -- Every marked case of document 01 holds of the definitions.
 use mathlib.Core.Path.{refl}
 use Rattle.grammar.specs.Grammar.{lower}
-use Rattle.octets.specs.Bytes.{digit?}
+use Rattle.octets.specs.Bytes.{digit?, hex?, token?}
+use Rattle.framing.specs.Machine.{lineStep, lineLive, lineEnds, leaveLine, enterChunk, step, live, done, pastRoom, over}
+use Rattle.framing.specs.Scan.{answer}
+use Rattle.framing.specs.Reading.{judge, decode}
 use Rattle.marked.specs.Cases.{All, table}
 
 pub marked : All table
-unfolding lower digit?
-marked = (refl, (refl, (refl, tt)))
+unfolding lower digit? hex? token? lineStep lineLive lineEnds leaveLine enterChunk step live done pastRoom over answer judge decode
+marked = (refl, (refl, (refl, (refl, (refl, tt)))))

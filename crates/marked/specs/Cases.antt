@@ -4,21 +4,27 @@ use Prim.Native.String.{String}
 use mathlib.Core.Path.{_≡_}
 use mathlib.Core.List.{List, [], _∷_}
 use Rattle.grammar.specs.Comparing.{outcome, compare}
-use Rattle.grammar.specs.Reading.{Verdict, value}
+use Rattle.grammar.specs.Reading.{value}
 use Rattle.grammar.specs.Judge.{header}
 use Rattle.version.specs.declared.Version.{Version}
 use Rattle.version.specs.declared.Order.the-variants.{Less}
 use Rattle.version.specs.Grammar as VersionGrammar
 use Rattle.version.specs.Reading.{precedence}
+use Rattle.framing.specs.Answer.{whole, refused}
+use Rattle.framing.specs.Reading.{decode}
 use Rattle.marked.specs.Text.{bytes}
 
 pub data Case : Type 0 where
   version-is : (text : String) (major minor : ℕ) → Case
   version-below : (text other : String) → Case
+  body-whole : (room : ℕ) (text : String) (taken len : ℕ) → Case
+  body-refused : (room : ℕ) (text : String) (number place : ℕ) → Case
 
 abbrev pub Holds : Case → Type 0
 Holds (version-is t m n) = header VersionGrammar.rules (bytes t) ≡ value (record { major = m; minor = n })
 Holds (version-below t u) = compare precedence (header VersionGrammar.rules (bytes t)) (header VersionGrammar.rules (bytes u)) ≡ outcome Less
+Holds (body-whole r t n k) = decode r (bytes t) ≡ whole n k
+Holds (body-refused r t n p) = decode r (bytes t) ≡ refused n p
 
 abbrev pub All : List Case → Type 0
 All [] = Unit {0}
@@ -29,4 +35,6 @@ table =
     version-below "HTTP/2.4" "HTTP/2.13"
     ∷ version-below "HTTP/2.13" "HTTP/12.3"
     ∷ version-is "HTTP/01.1" 1 1
+    ∷ body-whole 0 "0\r\n\r\n" 5 0
+    ∷ body-refused 0 "1" 7 0
     ∷ []
