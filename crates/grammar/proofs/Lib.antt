@@ -13,3 +13,6 @@ pub mod Reach
 pub mod Demands
 pub mod Nested
 pub mod Skips
+pub mod Repeats
+pub mod Pieces
+pub mod Comparing

@@ -9,4 +9,4 @@ use Rattle.marked.specs.Cases.{All, table}
 
 pub marked : All table
 unfolding lower digit? hex? token? lineStep lineLive lineEnds leaveLine enterChunk step live done pastRoom over answer judge decode
-marked = (refl, (refl, (refl, (refl, (refl, tt)))))
+marked = (refl, (refl, (refl, (refl, (refl, (refl, (refl, tt)))))))

@@ -4,12 +4,14 @@ use Prim.Native.String.{String}
 use mathlib.Core.Path.{_≡_}
 use mathlib.Core.List.{List, [], _∷_}
 use Rattle.grammar.specs.Comparing.{outcome, compare}
+use Rattle.grammar.specs.Reading as Header
 use Rattle.grammar.specs.Reading.{value}
 use Rattle.grammar.specs.Judge.{header}
 use Rattle.version.specs.declared.Version.{Version}
 use Rattle.version.specs.declared.Order.the-variants.{Less}
 use Rattle.version.specs.Grammar as VersionGrammar
 use Rattle.version.specs.Reading.{precedence}
+use Rattle.qvalue.specs.Grammar as QvalueGrammar
 use Rattle.framing.specs.Answer.{whole, refused}
 use Rattle.framing.specs.Reading.{decode}
 use Rattle.marked.specs.Text.{bytes}
@@ -17,12 +19,16 @@ use Rattle.marked.specs.Text.{bytes}
 pub data Case : Type 0 where
   version-is : (text : String) (major minor : ℕ) → Case
   version-below : (text other : String) → Case
+  qvalue-is : (text : String) (thousandths : ℕ) → Case
+  qvalue-refused : (text : String) (number place : ℕ) → Case
   body-whole : (room : ℕ) (text : String) (taken len : ℕ) → Case
   body-refused : (room : ℕ) (text : String) (number place : ℕ) → Case
 
 abbrev pub Holds : Case → Type 0
 Holds (version-is t m n) = header VersionGrammar.rules (bytes t) ≡ value (record { major = m; minor = n })
 Holds (version-below t u) = compare precedence (header VersionGrammar.rules (bytes t)) (header VersionGrammar.rules (bytes u)) ≡ outcome Less
+Holds (qvalue-is t q) = header QvalueGrammar.rules (bytes t) ≡ value q
+Holds (qvalue-refused t n p) = header QvalueGrammar.rules (bytes t) ≡ Header.refused n p
 Holds (body-whole r t n k) = decode r (bytes t) ≡ whole n k
 Holds (body-refused r t n p) = decode r (bytes t) ≡ refused n p
 
@@ -35,6 +41,8 @@ table =
     version-below "HTTP/2.4" "HTTP/2.13"
     ∷ version-below "HTTP/2.13" "HTTP/12.3"
     ∷ version-is "HTTP/01.1" 1 1
+    ∷ qvalue-is "0." 0
+    ∷ qvalue-refused "1.001" 1 4
     ∷ body-whole 0 "0\r\n\r\n" 5 0
     ∷ body-refused 0 "1" 7 0
     ∷ []

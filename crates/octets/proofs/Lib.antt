@@ -5,3 +5,6 @@ pub mod Runs
 pub mod Case
 pub mod Numbers
 pub mod Scans
+pub mod Quoted
+pub mod SameBytes
+pub mod Writing

@@ -4,3 +4,5 @@ pub mod Numbers
 pub mod Case
 pub mod Classes
 pub mod Writing
+pub mod Quoted
+pub mod Same

@@ -1,6 +1,8 @@
 -- What writers answer, and what they leave in the lent output.
 use Prim.Native.Nat.{ℕ}
+use mathlib.Core.Bool.{Bool, cond}
 use mathlib.Core.List.{List, _++_}
+use lib.Dec.{ltb}
 use lib.ListN.{length, drop}
 use Rattle.grammar.specs.Reading as G
 use Rattle.grammar.specs.Reading.{Verdict}
@@ -16,3 +18,7 @@ written (Refused r) = G.refused (r .number) (r .place)
 abbrev pub output : Verdict ℕ → List ℕ → List ℕ → List ℕ
 output (G.value n) text old = text ++ drop (length text) old
 output (G.refused n p) text old = old
+
+-- the answer of a writer of that text in a room: 9 for an argument outside its range, then 8 for a short output, each at place 0
+abbrev pub writing : Bool → List ℕ → ℕ → Verdict ℕ
+writing outside text room = cond outside (G.refused 9 0) (cond (ltb room (length text)) (G.refused 8 0) (G.value (length text)))

@@ -9,6 +9,8 @@ ghost use Rattle.octets.specs.Bytes.{digit?, letter?, blank?, token?, co
 ghost use Rattle.octets.specs.Runs.{member, Bits, run-end};
 ghost use Rattle.octets.specs.Numbers.{number-from, decimal-at};
 ghost use Rattle.octets.specs.Case.{alike, agreeing};
+ghost use Rattle.octets.specs.Quoted.{quoted-end};
+ghost use Rattle.octets.specs.Same.{same?};
 
 // Why an input was refused: document 01's number, and the place it names, counted from 0.
 pub struct Refusal {
@@ -238,4 +240,41 @@ pub fn read_decimal(s: &[u8], from: usize, limit: u64) -> Decimal
         i += 1;
     }
     found(value, from, i)
+}
+
+// The place where the text and pairs of a quoted string, which stand at `from`, stop: where its closing quote has to be.
+pub fn quoted_end(s: &[u8], from: usize) -> usize
+    ensures { λ r. ⌜ r ≡ quoted-end (now (s .entry)) from ⌝ }
+{
+    let mut i = class_end(TEXT, s, from);
+    while i < s.len() {
+        if s[i] != b'\\' {
+            return i;
+        }
+        if s.len() <= i + 1 {
+            return i + 1;
+        }
+        if !is_escaped(s[i + 1]) {
+            return i + 1;
+        }
+        i = class_end(TEXT, s, i + 2);
+    }
+    i
+}
+
+// Are two parts the same, byte for byte?
+pub fn same(a: &[u8], b: &[u8]) -> bool
+    ensures { λ r. ⌜ r ≡ same? (now (a .entry)) (now (b .entry)) ⌝ }
+{
+    if a.len() != b.len() {
+        return false;
+    }
+    let mut i = 0;
+    while i < a.len() {
+        if a[i] != b[i] {
+            return false;
+        }
+        i += 1;
+    }
+    true
 }

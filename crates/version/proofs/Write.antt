@@ -1,4 +1,4 @@
--- What the writer's parts leave in the lent bytes, and its answers.
+-- What the writer's parts leave in the lent bytes, and when a version is too large.
 use Prim.Native.Nat.{ℕ, suc, _+_, _≤_, _<_}
 use native.Mathlib.Omega.{arith}
 use borrow.Author.Tests.{lt-ltb, le-ltb, ltb-false}
@@ -7,17 +7,13 @@ use mathlib.Core.Bool.{Bool, true, false, cond, _||_, true≢false}
 use mathlib.Core.List.{List, [], _∷_, _++_, append-assoc}
 use lib.Dec.{ltb}
 use lib.ListN.{length, drop, length-append}
-use Rattle.grammar.specs.Reading.{Verdict, value, refused}
 use Rattle.numerals.specs.Numeral.{numeral}
 use Rattle.numerals.proofs.Digits.{width-bound, numeral-length}
-use Rattle.octets.specs.declared.Written.{Written}
-use Rattle.octets.specs.declared.Written.the-variants.{Length, Refused}
-use Rattle.octets.specs.Writing.{written, output}
 use Rattle.text.specs.Placing.{placed, behind}
 use Rattle.text.proofs.Placing.{placed-fits, Put, put-none, put-then}
 use Rattle.version.specs.declared.Version.{Version}
 use Rattle.version.specs.Grammar.{http, largest}
-use Rattle.version.specs.Writing.{version-text, too-large, writing, written-output}
+use Rattle.version.specs.Writing.{version-text, too-large}
 
 pub text-length : (v : Version) → length (version-text v) ≡ 6 + (length (numeral 10 (v .major)) + length (numeral 10 (v .minor)))
 text-length v = omega (arith, length-append (numeral 10 (v .major)) (46 ∷ numeral 10 (v .minor)))
@@ -76,31 +72,12 @@ within-both v e =
 pub both-within : (v : Version) → v .major ≤ largest → v .minor ≤ largest → too-large v ≡ false
 both-within v h k = rw (le-ltb largest (v .major) h, le-ltb largest (v .minor) k)
 
--- ## The answers
-
 or-true : (x : Bool) → (x || true) ≡ true
 or-true true = refl
 or-true false = refl
 
-module _ (v : Version) (old : List ℕ) where
-  -- what the promises ask of an answer and of the output
-  abbrev pub Answered : Written → List ℕ → Type 0
-  Answered r new = (written r ≡ writing v (length old)) × (new ≡ written-output v old)
+pub large-major : (v : Version) → largest < v .major → too-large v ≡ true
+large-major v h = rw (lt-ltb largest (v .major) h)
 
-  refuses : (n : ℕ) (r : Written) → r ≡ Refused (record { number = n; place = 0 }) → writing v (length old) ≡ refused n 0 → Answered r old
-  refuses n r e f = (ap written e ∙ sym f, sym (ap (λ (w : Verdict ℕ). output w (version-text v) old) f))
-
-  pub refuses-major : (r : Written) → r ≡ Refused (record { number = 9; place = 0 }) → largest < v .major → Answered r old
-  refuses-major r e h = refuses 9 r e (rw (lt-ltb largest (v .major) h))
-
-  pub refuses-minor : (r : Written) → r ≡ Refused (record { number = 9; place = 0 }) → largest < v .minor → Answered r old
-  refuses-minor r e h = refuses 9 r e (rw (lt-ltb largest (v .minor) h, or-true (ltb largest (v .major))))
-
-  pub refuses-short : (r : Written) → r ≡ Refused (record { number = 8; place = 0 }) → too-large v ≡ false → length old < length (version-text v) → Answered r old
-  refuses-short r e t h = refuses 8 r e (rw (t, lt-ltb (length old) (length (version-text v)) h))
-
-  pub writes : (n : ℕ) (new : List ℕ) → n ≡ length (version-text v) → too-large v ≡ false → length (version-text v) ≤ length old
-      → new ≡ version-text v ++ drop (length (version-text v)) old → Answered (Length n) new
-  writes n new e t h w =
-      let f : writing v (length old) ≡ value (length (version-text v)) = rw (t, le-ltb (length old) (length (version-text v)) h) in
-      (ap value e ∙ sym f, w ∙ sym (ap (λ (x : Verdict ℕ). output x (version-text v) old) f))
+pub large-minor : (v : Version) → largest < v .minor → too-large v ≡ true
+large-minor v h = rw (lt-ltb largest (v .minor) h, or-true (ltb largest (v .major)))

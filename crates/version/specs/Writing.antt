@@ -1,12 +1,12 @@
 -- "Written in capitals without leading zeros; a number above 65,535 given to the writer is refusal 9."
 use Prim.Native.Nat.{ℕ}
-use mathlib.Core.Bool.{Bool, cond, _||_}
+use mathlib.Core.Bool.{Bool, _||_}
 use mathlib.Core.List.{List, [], _∷_, _++_}
 use lib.Dec.{ltb}
 use lib.ListN.{length}
-use Rattle.grammar.specs.Reading.{Verdict, value, refused}
+use Rattle.grammar.specs.Reading.{Verdict}
 use Rattle.numerals.specs.Numeral.{numeral}
-use Rattle.octets.specs.Writing.{output}
+use Rattle.octets.specs.Writing.{output, writing}
 use Rattle.version.specs.declared.Version.{Version}
 use Rattle.version.specs.Grammar.{http, largest}
 
@@ -16,11 +16,9 @@ version-text v = http ++ (numeral 10 (v .major) ++ (46 ∷ numeral 10 (v .minor)
 abbrev pub too-large : Version → Bool
 too-large v = ltb largest (v .major) || ltb largest (v .minor)
 
--- the answer in a room: 9, then 8 for a short output, each at place 0
-abbrev pub writing : Version → ℕ → Verdict ℕ
-writing v room =
-    cond (too-large v) (refused 9 0) (cond (ltb room (length (version-text v))) (refused 8 0) (value (length (version-text v))))
+-- the answer in a room, and the lent output afterwards
+abbrev pub version-writing : Version → ℕ → Verdict ℕ
+version-writing v room = writing (too-large v) (version-text v) room
 
--- the lent output afterwards
 abbrev pub written-output : Version → List ℕ → List ℕ
-written-output v old = output (writing v (length old)) (version-text v) old
+written-output v old = output (version-writing v (length old)) (version-text v) old

@@ -9,7 +9,7 @@ ghost use Rattle.grammar.specs.Judge.{header};
 ghost use Rattle.version.specs.Grammar.{rules};
 ghost use Rattle.version.specs.Reading.{verdict, comparison, precedence};
 ghost use Rattle.version.specs.Scan.{AfterMajor};
-ghost use Rattle.version.specs.Writing.{version-text, too-large, writing, written-output};
+ghost use Rattle.version.specs.Writing.{version-text, too-large, version-writing, written-output};
 ghost use Rattle.octets.specs.Writing.{written};
 use octets::Decimal;
 use octets::Refusal;
@@ -90,7 +90,7 @@ impl Version {
 
     // Writes the version at the front of `out`, in capitals and without leading zeros, and keeps the rest of `out`.
     pub fn write(self, out: &mut [u8]) -> Written
-        ensures answers { λ r. ⌜ written r ≡ writing self (length (now (out .entry))) ⌝ }
+        ensures answers { λ r. ⌜ written r ≡ version-writing self (length (now (out .entry))) ⌝ }
         ensures writes { λ _. ⌜ now (out .exit) ≡ written-output self (now (out .entry)) ⌝ }
     {
         if self.major as u64 > NUMBER_LIMIT {

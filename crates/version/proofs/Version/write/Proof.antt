@@ -1,19 +1,21 @@
 -- `version::Version::write` meets its contract.
 use native.Mathlib.Omega.{arith}
 use borrow.Author.Needs.{needs}
-use Rattle.version.proofs.Write.{both-within, refuses-major, refuses-minor, refuses-short, writes}
+use Rattle.octets.proofs.Writing.{refuses-argument, refuses-short, writes-all}
+use Rattle.version.specs.Writing.{version-text, too-large}
+use Rattle.version.proofs.Write.{both-within, large-major, large-minor}
 use Rattle.version.proofs.Version.write.Statement.{statement}
 use Rattle.version.proofs.Version.write.Tie as tie
 
 returns : tie.Need-returns
 returns c =
     let x = c .before .before .before .before .args in
-    refuses-major (x .self) (x .out .now) (c .unwritten .result) (c .unwritten .ensures) (c .before .if1 .taken)
+    refuses-argument (too-large (x .self)) (version-text (x .self)) (x .out .now) (c .unwritten .result) (c .unwritten .ensures) (large-major (x .self) (c .before .if1 .taken))
 
 returns-2 : tie.Need-returns-2
 returns-2 c =
     let x = c .before .before .before .before .before .before .args in
-    refuses-minor (x .self) (x .out .now) (c .unwritten2 .result) (c .unwritten2 .ensures) (c .before .if2 .taken)
+    refuses-argument (too-large (x .self)) (version-text (x .self)) (x .out .now) (c .unwritten2 .result) (c .unwritten2 .ensures) (large-minor (x .self) (c .before .if2 .taken))
 
 text-len-requires : tie.Need-text-len-requires
 text-len-requires c κs =
@@ -23,7 +25,7 @@ text-len-requires c κs =
 returns-3 : tie.Need-returns-3
 returns-3 c =
     let x = c .before .before .before .before .before .before .before .before .args in
-    refuses-short (x .self) (x .out .now) (c .unwritten3 .result) (c .unwritten3 .ensures)
+    refuses-short (too-large (x .self)) (version-text (x .self)) (x .out .now) (c .unwritten3 .result) (c .unwritten3 .ensures)
     (both-within (x .self) (c .before .before .before .before .before .if1 .left) (c .before .before .before .if2 .left))
     (omega (arith, c .before .before .text-len .ensures, c .before .if3 .taken))
 
@@ -32,7 +34,7 @@ returns-4 c =
     let x = c .before .before .before .before .before .before .before .before .before .before .before .args in
     let n = c .before .before .before .before .before .text-len in
     let t = both-within (x .self) (c .before .before .before .before .before .before .before .before .if1 .left) (c .before .before .before .before .before .before .if2 .left) in
-    writes (x .self) (x .out .now) (n .result) (c .before .before .put-text .last .1 .0) (n .ensures) t (omega (arith, n .ensures, c .before .before .before .before .if3 .left)) (c .before .before .put-text .ensures)
+    writes-all (too-large (x .self)) (version-text (x .self)) (x .out .now) (n .result) (c .before .before .put-text .last .1 .0) (n .ensures) t (omega (arith, n .ensures, c .before .before .before .before .if3 .left)) (c .before .before .put-text .ensures)
 
 pub write-spec : {M : Type 1} → statement M
 write-spec =

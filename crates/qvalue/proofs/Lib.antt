@@ -1,0 +1,4 @@
+pub mod Scan
+pub mod Text
+pub mod Values
+pub mod Demands

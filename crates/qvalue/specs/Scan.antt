@@ -1,0 +1,25 @@
+-- For the contract of the reader's helper.
+use Prim.Native.Nat.{ℕ, _+_, _≤_}
+use mathlib.Core.Path.{_≡_}
+use mathlib.Core.Bool.{true}
+use mathlib.Core.List.{List, [], _∷_}
+use lib.ListN.{length}
+use Rattle.grammar.specs.Grammar.{Class, Part}
+use Rattle.grammar.specs.Checks.{ahead}
+use Rattle.grammar.specs.Judge.{header}
+use Rattle.grammar.specs.Scans.{from}
+use Rattle.octets.specs.Bytes.{digit?}
+use Rattle.octets.specs.Runs.{Bits}
+use Rattle.qvalue.specs.Grammar.{Name, whole, decimals, rules}
+
+abbrev pub whole-part : ℕ → Part Name
+whole-part w = record { label = whole; start = 0; text = (48 + w) ∷ [] }
+
+-- the first digit's value is w, and the answer is what is found behind it, where the decimals are of the class
+pub record AfterWhole (s : List ℕ) (w : ℕ) (words : List ℕ) : Type 0 where
+  pub class : Class
+  pub bits : Bits words (class .has)
+  pub digits : (b : ℕ) → class .has b ≡ true → digit? b ≡ true
+  pub small : w ≤ 1
+  pub some : 1 ≤ length s
+  pub reads : header rules s ≡ from rules s (ahead (whole-part w ∷ []) (decimals class)) 1

@@ -1,0 +1,144 @@
+// Quality values: RFC 2616 3.9.
+ghost use mathlib.Core.Path.{_≡_};
+ghost use mathlib.Core.Bool.{true};
+ghost use mathlib.Core.List.{_++_};
+ghost use Prim.Native.Nat.{_+_, _-_, _%_, _≤_};
+ghost use lib.ListN.{length, drop, getD};
+ghost use Rattle.grammar.specs.Judge.{header};
+ghost use Rattle.octets.specs.Bytes.{digit?};
+ghost use Rattle.octets.specs.Writing.{written};
+ghost use Rattle.qvalue.specs.Grammar.{rules};
+ghost use Rattle.qvalue.specs.Reading.{verdict};
+ghost use Rattle.qvalue.specs.Scan.{AfterWhole};
+ghost use Rattle.qvalue.specs.Writing.{qvalue-text, written-qvalue, qvalue-output};
+use octets::Class;
+use octets::Refusal;
+use octets::Written;
+
+// The longest header value, and the longest qvalue.
+const VALUE_LIMIT: usize = 8192;
+
+const LONGEST: usize = 5;
+
+// The largest qvalue, in thousandths.
+const ONE: u16 = 1000;
+
+const ZERO: Class = [0x1000000000000, 0, 0, 0];
+
+// A qvalue in thousandths, 0 to 1000.
+pub enum Reading {
+    Read(u16),
+    Refused(Refusal),
+}
+
+// `0` with an optional point and up to three digits, or `1` with an optional point and up to three zeros.
+pub fn read(s: &[u8]) -> Reading
+    ensures { λ r. ⌜ verdict r ≡ header rules (now (s .entry)) ⌝ }
+{
+    if s.len() > VALUE_LIMIT {
+        return refused(13, VALUE_LIMIT);
+    }
+    if s.len() == 0 {
+        return refused(1, 0);
+    }
+    let b = s[0];
+    if b == b'0' {
+        return read_fraction(s, 0, octets::DIGIT);
+    }
+    if b == b'1' {
+        return read_fraction(s, 1, ZERO);
+    }
+    refused(1, 0)
+}
+
+// Writes the shortest form at the front of `out`, and keeps the rest of `out`.
+pub fn write(thousandths: u16, out: &mut [u8]) -> Written
+    ensures answers { λ r. ⌜ written r ≡ written-qvalue thousandths (length (now (out .entry))) ⌝ }
+    ensures writes { λ _. ⌜ now (out .exit) ≡ qvalue-output thousandths (now (out .entry)) ⌝ }
+{
+    if thousandths > ONE {
+        return unwritten(9);
+    }
+    let len = text_len(thousandths);
+    if out.len() < len {
+        return unwritten(8);
+    }
+    put_text(thousandths, len, out);
+    Written::Length(len)
+}
+
+fn refused(number: u8, place: usize) -> Reading
+    ensures { λ r. ⌜ r ≡ Reading.Refused (record { number = number; place = place }) ⌝ }
+{
+    Reading::Refused(Refusal { number, place })
+}
+
+fn unwritten(number: u8) -> Written
+    ensures { λ r. ⌜ r ≡ Written.Refused (record { number = number; place = 0 }) ⌝ }
+{
+    Written::Refused(Refusal { number, place: 0 })
+}
+
+// Reads on behind the first digit, whose value is `whole`; the digits behind the point are of that class.
+fn read_fraction(s: &[u8], whole: u16, class: Class) -> Reading
+    requires { ⌜ AfterWhole (now s) whole class ⌝ }
+    ensures { λ r. ⌜ verdict r ≡ header rules (now (s .entry)) ⌝ }
+{
+    if s.len() == 1 {
+        return Reading::Read(whole * 1000);
+    }
+    if s[1] != b'.' {
+        return refused(1, 1);
+    }
+    let end = octets::class_end(class, s, 2);
+    if end > LONGEST {
+        return refused(1, LONGEST);
+    }
+    if end < s.len() {
+        return refused(1, end);
+    }
+    Reading::Read(whole * 1000 + digit_at(s, 2) * 100 + digit_at(s, 3) * 10 + digit_at(s, 4))
+}
+
+// The value of the digit at that place; none there is as good as a zero.
+fn digit_at(s: &[u8], i: usize) -> u16
+    requires { ⌜ digit? (getD (now s) i 48) ≡ true ⌝ }
+    ensures { λ r. ⌜ (r ≡ getD (now (s .entry)) i 48 - 48) × (r ≤ 9) ⌝ }
+{
+    if i < s.len() { (s[i] - 48) as u16 } else { 0 }
+}
+
+fn text_len(q: u16) -> usize
+    ensures { λ r. ⌜ r ≡ length (qvalue-text q) ⌝ }
+{
+    if q % 1000 == 0 {
+        1
+    } else if q % 100 == 0 {
+        3
+    } else if q % 10 == 0 {
+        4
+    } else {
+        5
+    }
+}
+
+// Puts the first `len` bytes of the form with three digits.
+fn put_text(q: u16, len: usize, out: &mut [u8])
+    requires { ⌜ (len ≡ length (qvalue-text q)) × (len ≤ length (now out)) ⌝ }
+    ensures { λ _. ⌜ now (out .exit) ≡ qvalue-text q ++ drop (length (qvalue-text q)) (now (out .entry)) ⌝ }
+{
+    let full = [
+        last_digit(q / 1000),
+        b'.',
+        last_digit(q / 100),
+        last_digit(q / 10),
+        last_digit(q),
+    ];
+    text::put_bytes(&full[..len], out, 0);
+}
+
+fn last_digit(n: u16) -> u8
+    ensures { λ r. ⌜ r ≡ 48 + n % 10 ⌝ }
+{
+    48 + (n % 10) as u8
+}
