@@ -1,12 +1,12 @@
 -- A piece of the input, line by line: what is said, and what is held.
-use mathlib.Core.Path.{_≡_, refl, sym, _∙_, ap, ap₂, subst}
-use mathlib.Core.Bool.{Bool, true, false, cond}
+use mathlib.Core.Path.{_≡_, refl, sym, _∙_, ap, ap₂}
+use mathlib.Core.Bool.{true, false, cond}
 use mathlib.Core.List.{List, [], _∷_, _++_, append-assoc, append-nil}
-use Prim.Native.Nat.{ℕ, zero, suc, _+_, _-_, _*_, _<_, _≤_}
+use Prim.Native.Nat.{ℕ, _+_, _-_, _*_, _<_, _≤_}
 use native.Mathlib.Omega.{arith}
 use lib.Dec.{eqb, ltb}
-use lib.ListN.{length, take, drop, length-append, length-drop, length-take, drop-of-length-le, take-append-drop}
-use lib.Seq.{take-all, take-at, drop-drop, length-take-le}
+use lib.ListN.{length, take, drop, length-append, length-drop, length-take, drop-of-length-le}
+use lib.Seq.{take-all, take-at, drop-drop}
 use borrow.Author.Tests.{ltb-true, ltb-false}
 use Rattle.numerals.proofs.Digits.{split, at-true, at-false}
 use Rattle.text.specs.Placing.{placed}

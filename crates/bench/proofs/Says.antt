@@ -1,11 +1,9 @@
 -- What is said of an answer and of a line, and that it is short.
 use mathlib.Core.Path.{_≡_, refl, sym, _∙_, ap, ap₂, subst}
 use mathlib.Core.List.{List, [], _∷_, _++_, append-assoc}
-use mathlib.Core.Logic.{⊎-elim}
 use mathlib.Core.Option.{Option, none, some}
 use Prim.Native.Nat.{ℕ, zero, suc, _+_, _-_, _*_, _/_, _^_, _<_, _≤_}
 use native.Mathlib.Nat.{div-lt-iff-lt-mul, pow-suc}
-use native.Mathlib.Decide.{ℕ-discrete}
 use native.Mathlib.Omega.{arith}
 use lib.Dec.{eqb, ltb}
 use lib.ListN.{length, take, drop, length-append}
@@ -21,7 +19,7 @@ use Rattle.framing.specs.Grammar.{Chunk, Chunks, Body, Broken}
 use Rattle.framing.specs.Demand.{BeginsWhole, Malformed, Over}
 use Rattle.framing.specs.Reading.{decode}
 use Rattle.framing.proofs.Demands as Framing
-use Rattle.lines.specs.Grammar.{DIGIT_LIMIT, Spells}
+use Rattle.lines.specs.Grammar.{DIGIT_LIMIT}
 use Rattle.lines.specs.Reading.{spelled, answer, filled}
 use Rattle.lines.specs.declared.Hex.{Hex}
 use Rattle.lines.specs.declared.Hex.the-variants.{Bytes, Bad}
@@ -29,7 +27,7 @@ use Rattle.lines.proofs.Demands as Lines
 use Rattle.lines.proofs.Hexes as Hexes
 use Rattle.chunked.specs.declared.Answer.{Answer as Coded}
 use Rattle.chunked.specs.Verdict.{verdict}
-use Rattle.bench.specs.Saying.{ROOM, LINE_LENGTH, two, said-answer, said-bytes, said, all-said}
+use Rattle.bench.specs.Saying.{ROOM, LINE_LENGTH, two, said-answer, said-bytes, said}
 
 -- ## Text
 pub two-put : (old : List ℕ) (at : ℕ) (letter : List ℕ) (a b : ℕ) (l₁ l₂ l₃ l₄ l₅ : List ℕ) (i j k l r : ℕ)

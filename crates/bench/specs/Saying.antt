@@ -1,21 +1,25 @@
 -- What the bench program prints: a line of text for each line of its input. Definitions alone.
 use mathlib.Core.List.{List, [], _∷_, _++_}
 use mathlib.Core.Option.{Option, none, some}
-use Prim.Native.Nat.{ℕ}
-use lib.ListN.{take}
+use mathlib.Core.Path.{_≡_}
+use Prim.Native.Nat.{ℕ, _+_, _*_, _≤_}
+use lib.ListN.{length, take}
 use Rattle.numerals.specs.Numeral.{numeral}
 use Rattle.framing.specs.Answer.{Answer, whole, more, refused}
 use Rattle.framing.specs.Reading.{decode}
-use Rattle.lines.specs.Grammar.{DIGIT_LIMIT}
 use Rattle.lines.specs.Reading.{lines-from, rest-from, last-line, lines-of, spelled}
 
 -- "in 16,384 bytes of room"
 abbrev pub ROOM : ℕ
 ROOM = 16384
 
--- two numbers behind a letter: `C 15 5`
+-- two numbers, a blank between them, behind some bytes
+abbrev pub numbers : List ℕ → ℕ → ℕ → List ℕ
+numbers begin a b = begin ++ (numeral 10 a ++ (32 ∷ (numeral 10 b ++ (10 ∷ []))))
+
+-- behind a letter: `C 15 5`
 abbrev pub two : ℕ → ℕ → ℕ → List ℕ
-two letter a b = letter ∷ 32 ∷ (numeral 10 a ++ (32 ∷ (numeral 10 b ++ (10 ∷ []))))
+two letter a b = numbers (letter ∷ 32 ∷ []) a b
 
 -- `C taken len`, `M`, `R number place`; "each output line ends with LF"
 unfoldable pub said-answer : Answer → List ℕ
@@ -53,3 +57,24 @@ LINE_LENGTH = 32769
 unfoldable pub printed : List ℕ → List (List ℕ) → List ℕ
 printed held [] = all-said (last-line held)
 printed held (p ∷ pieces) = all-said (lines-from held p) ++ printed (take LINE_LENGTH (rest-from held p)) pieces
+
+-- ## For the program's functions
+-- what is said of the lines that end in a piece, where `held` bytes stand at the front of the line buffer
+abbrev pub piece-said : List ℕ → ℕ → List ℕ → List ℕ
+piece-said line held piece = all-said (lines-from (take held line) piece)
+
+-- and what is held then
+abbrev pub piece-held : List ℕ → ℕ → List ℕ → List ℕ
+piece-held line held piece = take LINE_LENGTH (rest-from (take held line) piece)
+
+-- the buffers have their lengths; in the last, what is said has room
+abbrev pub Buffers : List ℕ → List ℕ → List ℕ → List ℕ → List ℕ → Type 0
+Buffers piece line frame room out =
+    (length piece ≡ 4096) × (length line ≡ LINE_LENGTH) × (length frame ≡ ROOM) × (length room ≡ ROOM) × (length out ≡ 65552)
+
+abbrev pub PieceFits : List ℕ → List ℕ → ℕ → List ℕ → List ℕ → List ℕ → Type 0
+PieceFits piece line held frame room out =
+    (length line ≡ LINE_LENGTH) × (held ≤ LINE_LENGTH) × (length frame ≡ ROOM) × (length room ≡ ROOM) × (16 * length piece + 16 ≤ length out)
+
+abbrev pub LineFits : List ℕ → List ℕ → List ℕ → List ℕ → ℕ → Type 0
+LineFits line frame room out at = (length frame ≡ ROOM) × (length room ≡ ROOM) × (at + length (said line) ≤ length out)

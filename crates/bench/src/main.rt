@@ -1,14 +1,11 @@
 // Document 01's bench program: lines of hexadecimal, one frame a line, each decoded as a chunked body.
 ghost use mathlib.Core.Path.{_≡_};
-ghost use mathlib.Core.Bool.{true};
-ghost use mathlib.Core.List.{_++_, _∷_, []};
-ghost use Prim.Native.Nat.{ℕ, _+_, _*_, _≤_};
-ghost use lib.ListN.{length, take, drop};
+ghost use Prim.Native.Nat.{_+_, _≤_};
+ghost use lib.ListN.{length, take};
 ghost use Rattle.text.specs.Placing.{placed};
-ghost use Rattle.numerals.specs.Numeral.{numeral};
 ghost use Rattle.chunked.specs.Verdict.{verdict};
-ghost use Rattle.lines.specs.Reading.{lines-from, rest-from};
-ghost use Rattle.bench.specs.Saying.{ROOM as roomOf, LINE_LENGTH as lineLength, two, said-answer, said, all-said};
+ghost use Rattle.bench.specs.Saying.{LINE_LENGTH as lineLength, numbers, said-answer, said, piece-said, piece-held};
+ghost use Rattle.bench.specs.Saying.{Buffers, PieceFits, LineFits};
 use chunked::Answer;
 use libc::STDIN_FILENO;
 use libc::STDOUT_FILENO;
@@ -42,7 +39,7 @@ fn main() {
 
 // Answers each line of the input; the last may have no LF.
 fn run(piece: &mut [u8], line: &mut [u8], frame: &mut [u8], room: &mut [u8], out: &mut [u8])
-    requires { ⌜ (length (now piece) ≡ 4096) × (length (now line) ≡ lineLength) × (length (now frame) ≡ roomOf) × (length (now room) ≡ roomOf) × (length (now out) ≡ 65552) ⌝ }
+    requires { ⌜ Buffers (now piece) (now line) (now frame) (now room) (now out) ⌝ }
 {
     let held = read_all(piece, line, frame, room, out);
     if held > 0 {
@@ -60,7 +57,7 @@ fn read_all(
     room: &mut [u8],
     out: &mut [u8],
 ) -> usize
-    requires { ⌜ (length (now piece) ≡ 4096) × (length (now line) ≡ lineLength) × (length (now frame) ≡ roomOf) × (length (now room) ≡ roomOf) × (length (now out) ≡ 65552) ⌝ }
+    requires { ⌜ Buffers (now piece) (now line) (now frame) (now room) (now out) ⌝ }
     ensures { λ r. ⌜ r ≤ lineLength ⌝ }
 {
     let mut held = 0;
@@ -88,10 +85,11 @@ fn put_piece(
     room: &mut [u8],
     out: &mut [u8],
 ) -> Progress
-    requires { ⌜ (length (now line) ≡ lineLength) × (held ≤ lineLength) × (length (now frame) ≡ roomOf) × (length (now room) ≡ roomOf) × (16 * length (now piece) + 16 ≤ length (now out)) ⌝ }
-    ensures counts { λ r. ⌜ r .used ≡ length (all-said (lines-from (take held (now (line .entry))) (now (piece .entry)))) ⌝ }
-    ensures says { λ r. ⌜ now (out .exit) ≡ placed (now (out .entry)) 0 (all-said (lines-from (take held (now (line .entry))) (now (piece .entry)))) ⌝ }
-    ensures holds { λ r. ⌜ (r .held ≤ lineLength) × (take (r .held) (now (line .exit)) ≡ take lineLength (rest-from (take held (now (line .entry))) (now (piece .entry)))) ⌝ }
+    requires { ⌜ PieceFits (now piece) (now line) held (now frame) (now room) (now out) ⌝ }
+    ensures counts { λ r. ⌜ r .used ≡ length (piece-said (now (line .entry)) held (now (piece .entry))) ⌝ }
+    ensures put { λ _. ⌜ now (out .exit) ≡ placed (now (out .entry)) 0 (piece-said (now (line .entry)) held (now (piece .entry))) ⌝ }
+    ensures fits { λ r. ⌜ r .held ≤ lineLength ⌝ }
+    ensures holds { λ r. ⌜ take (r .held) (now (line .exit)) ≡ piece-held (now (line .entry)) held (now (piece .entry)) ⌝ }
 {
     let mut at = 0;
     let mut begun = held;
@@ -112,7 +110,7 @@ fn put_piece(
 
 // Puts what is said of a line at `at`, and gives the place behind it.
 fn put_line(line: &[u8], frame: &mut [u8], room: &mut [u8], out: &mut [u8], at: usize) -> usize
-    requires { ⌜ (length (now frame) ≡ roomOf) × (length (now room) ≡ roomOf) × (at + length (said (now line)) ≤ length (now out)) ⌝ }
+    requires { ⌜ LineFits (now line) (now frame) (now room) (now out) at ⌝ }
     ensures ends { λ r. ⌜ r ≡ at + length (said (now (line .entry))) ⌝ }
     ensures says { λ _. ⌜ now (out .exit) ≡ placed (now (out .entry)) at (said (now (line .entry))) ⌝ }
 {
@@ -137,9 +135,9 @@ fn put_answer(a: Answer, out: &mut [u8], at: usize) -> usize
 
 // Two numbers behind a letter and a blank.
 fn put_two(letter: &[u8], a: u64, b: u64, out: &mut [u8], at: usize) -> usize
-    requires { ⌜ at + length (now letter ++ (numeral 10 a ++ (32 ∷ (numeral 10 b ++ (10 ∷ []))))) ≤ length (now out) ⌝ }
-    ensures ends { λ r. ⌜ r ≡ at + length (now (letter .entry) ++ (numeral 10 a ++ (32 ∷ (numeral 10 b ++ (10 ∷ []))))) ⌝ }
-    ensures says { λ _. ⌜ now (out .exit) ≡ placed (now (out .entry)) at (now (letter .entry) ++ (numeral 10 a ++ (32 ∷ (numeral 10 b ++ (10 ∷ []))))) ⌝ }
+    requires { ⌜ at + length (numbers (now letter) a b) ≤ length (now out) ⌝ }
+    ensures ends { λ r. ⌜ r ≡ at + length (numbers (now (letter .entry)) a b) ⌝ }
+    ensures says { λ _. ⌜ now (out .exit) ≡ placed (now (out .entry)) at (numbers (now (letter .entry)) a b) ⌝ }
 {
     let i = text::put_bytes(letter, out, at);
     let j = text::put_decimal(a, out, i);

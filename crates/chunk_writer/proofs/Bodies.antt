@@ -13,7 +13,7 @@ use Rattle.numerals.proofs.Digits.{split, glyph-below, glyph-above}
 use Rattle.numerals.proofs.Demands as Numerals
 use Rattle.framing.specs.Grammar as G
 use Rattle.framing.specs.Grammar.{Many, Some, Size, Line, Chunk, Chunks, Body, valueFrom}
-use Rattle.chunk_writer.specs.Writing.{chunk, end, framed, joined, cut-in, cut, frame}
+use Rattle.chunk_writer.specs.Writing.{chunk, end, framed, joined, cut-in, cut}
 
 -- ## Sizes
 inside : (lo hi b : ℕ) → lo ≤ b → b ≤ hi → within lo hi b ≡ true

@@ -1,8 +1,7 @@
 -- What the writer's frame is, over the grammar of chunked bodies, and that it reads back. The words quoted are those of document 01.
-use mathlib.Core.Path.{_≡_, refl, sym, _∙_, ap, subst}
+use mathlib.Core.Path.{_≡_, refl, _∙_, ap, subst}
 use mathlib.Core.List.{List, [], _∷_, _++_}
-use mathlib.Core.Logic.{_↔_}
-use Prim.Native.Nat.{ℕ, suc, _+_, _^_, _<_, _≤_}
+use Prim.Native.Nat.{ℕ, _+_, _<_, _≤_}
 use native.Mathlib.Omega.{arith}
 use lib.ListN.{length, getD, take, drop}
 use lib.Seq.{take-length}
@@ -16,7 +15,7 @@ use Rattle.framing.specs.Reading.{decode, decoded}
 use Rattle.framing.proofs.Demands as Framing
 use Rattle.chunk_writer.specs.Writing.{BODY_LIMIT, chunk, end, framed, joined, cut-in, cut, frame}
 use Rattle.chunk_writer.proofs.Cuts as Cuts
-use Rattle.chunk_writer.proofs.Bodies.{Pieces, size-is, framed-body, pieces-of, joined-cut}
+use Rattle.chunk_writer.proofs.Bodies.{size-is, framed-body, pieces-of, joined-cut}
 use Rattle.chunk_writer.proofs.ReadsBack.{reads-framed}
 
 -- ## Sizes

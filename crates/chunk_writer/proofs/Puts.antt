@@ -1,10 +1,10 @@
 -- What the writer's parts leave in the lent bytes: a number, a chunk, and the chunks so far.
 use mathlib.Core.Path.{_≡_, refl, sym, _∙_, ap, ap₂, subst}
-use mathlib.Core.List.{List, [], _∷_, _++_, append-assoc, append-nil}
-use Prim.Native.Nat.{ℕ, zero, suc, _+_, _-_, _<_, _≤_, min}
+use mathlib.Core.List.{List, [], _∷_, _++_, append-assoc}
+use Prim.Native.Nat.{ℕ, _+_, _-_, _<_, _≤_, min}
 use native.Mathlib.Omega.{arith}
 use lib.ListN.{length, take, drop, length-append, length-drop, drop-of-length-le}
-use lib.Seq.{take-add, take-at, take-all, drop-at, drop-drop, drop-append-add, drop-length, length-take-le}
+use lib.Seq.{take-add, take-at, take-all, drop-at, drop-drop, drop-append-add, length-take-le}
 use lib.Dec.{leb}
 use borrow.Author.Tests.{leb-true, leb-false}
 use Rattle.numerals.specs.Numeral.{numeral}

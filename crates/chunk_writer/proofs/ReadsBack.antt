@@ -1,17 +1,16 @@
 -- The reader's machine goes over a frame without a verdict, up to the last byte.
-use mathlib.Core.Path.{_≡_, refl, sym, _∙_, ap, ap₂, subst}
-use mathlib.Core.Bool.{Bool, true, false, cond}
+use mathlib.Core.Path.{_≡_, refl, _∙_, ap, ap₂, subst}
+use mathlib.Core.Bool.{true, false}
 use mathlib.Core.List.{List, [], _∷_, _++_, append-assoc}
 use mathlib.Core.Option.{Option, none, some}
 use Prim.Native.Nat.{ℕ, zero, suc, _+_, _-_, _*_, _^_, _<_, _≤_}
 use native.Mathlib.Omega.{arith}
-use lib.Dec.{eqb, ltb}
+use lib.Dec.{eqb}
 use lib.ListN.{length, length-append}
-use borrow.Author.Tests.{eqb-true, ne-eqb, le-ltb}
+use borrow.Author.Tests.{ne-eqb, le-ltb}
 use Rattle.octets.specs.Bytes.{octet?, hex?, hex-value}
 use Rattle.numerals.specs.Numeral.{numeral}
 use Rattle.numerals.proofs.Demands as Numerals
-use Rattle.framing.specs.declared.LinePos.{LinePos}
 use Rattle.framing.specs.declared.LinePos.the-variants.{First, Size}
 use Rattle.framing.specs.declared.TrailPos.the-variants.{Start}
 use Rattle.framing.specs.declared.State.{State}
@@ -19,13 +18,13 @@ use Rattle.framing.specs.declared.State.the-variants.{Line, LineFeed, Data, Dat
 use Rattle.framing.specs.Answer.{whole}
 use Rattle.framing.specs.Grammar as G
 use Rattle.framing.specs.Grammar.{Many, valueFrom}
-use Rattle.framing.specs.Scan.{Verdict, ended, Found, stop, note, scan, answer, judgeBy}
-use Rattle.framing.specs.Machine.{lineStep, lineLive, lineEnds, leaveLine, enterChunk, step, live, done, pastRoom, over, start}
+use Rattle.framing.specs.Scan.{Verdict, ended, stop, note, scan, answer}
+use Rattle.framing.specs.Machine.{lineStep, lineLive, lineEnds, leaveLine, enterChunk, step, live, done, pastRoom, over}
 use Rattle.framing.specs.Reading.{judge, decode}
-use Rattle.chunk_writer.specs.Writing.{BODY_LIMIT, chunk, end, framed, joined, frame, cut}
+use Rattle.chunk_writer.specs.Writing.{chunk, end, framed, joined, frame}
 use Rattle.chunk_writer.proofs.Cuts.{hex-short}
 use Rattle.chunk_writer.proofs.Bodies as Bodies
-use Rattle.chunk_writer.proofs.Bodies.{Pieces, size-many, size-value, pieces-of, joined-cut}
+use Rattle.chunk_writer.proofs.Bodies.{Pieces, size-many, size-value}
 
 -- ## Steps
 hex-no-cr : (b : ℕ) → hex? b ≡ true → eqb b 13 ≡ false

@@ -1,8 +1,8 @@
 -- A line gathered from a piece: what the buffer then has of it.
-use mathlib.Core.Path.{_≡_, refl, sym, _∙_, ap, ap₂}
+use mathlib.Core.Path.{_≡_, sym, _∙_, ap, ap₂}
 use mathlib.Core.Bool.{Bool, true, false, cond}
-use mathlib.Core.List.{List, [], _∷_, _++_, append-assoc}
-use Prim.Native.Nat.{ℕ, suc, _+_, _-_, _<_, _≤_, min}
+use mathlib.Core.List.{List, _++_, append-assoc}
+use Prim.Native.Nat.{ℕ, _+_, _-_, _<_, _≤_, min}
 use native.Mathlib.Omega.{arith}
 use lib.Dec.{leb, ltb}
 use lib.ListN.{length, take, drop, length-append, length-take}
@@ -11,7 +11,6 @@ use borrow.Author.Tests.{leb-true, leb-false, lt-ltb, le-ltb}
 use Rattle.numerals.proofs.Digits.{split}
 use Rattle.text.specs.Placing.{placed, behind}
 use Rattle.text.proofs.Placing.{placed-fits, behind-fits}
-use Rattle.lines.specs.declared.Gathered.{Gathered}
 use Rattle.lines.specs.Reading.{line-end, line-with, gathering}
 use Rattle.lines.proofs.Ends.{end-within}
 

@@ -1,5 +1,5 @@
 -- Lines taken from pieces of an input, and their bytes: definitions that compute.
-use mathlib.Core.Bool.{Bool, true, false, _&&_, cond}
+use mathlib.Core.Bool.{_&&_, cond}
 use mathlib.Core.List.{List, [], _∷_, _++_}
 use mathlib.Core.Option.{Option, none, some}
 use Prim.Native.Nat.{ℕ, suc, _+_, _*_}
@@ -40,6 +40,10 @@ lines-of xs = lines-from [] xs ++ last-line (rest-from [] xs)
 -- what a buffer has of a line: its first bytes, as many as fit. `held` of them are there; the piece goes on with them up to its LF.
 unfoldable pub line-with : List ℕ → ℕ → List ℕ → List ℕ
 line-with line held piece = take (length line) (take held line ++ take (line-end piece) piece)
+
+-- the buffer afterwards: that line at its front, the rest as it was
+abbrev pub gathered-line : List ℕ → ℕ → List ℕ → List ℕ
+gathered-line line held piece = line-with line held piece ++ drop (length (line-with line held piece)) line
 
 -- the piece's bytes that belong to the line, its LF included
 unfoldable pub gathering : List ℕ → ℕ → List ℕ → Gathered

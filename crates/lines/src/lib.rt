@@ -1,12 +1,11 @@
 // Lines of hexadecimal, for the programs: a line gathered from pieces of an input, and its digits as bytes.
 ghost use mathlib.Core.Path.{_≡_};
-ghost use mathlib.Core.Bool.{Bool, true};
-ghost use mathlib.Core.List.{_++_};
-ghost use Prim.Native.Nat.{ℕ, _+_, _*_, _≤_, min};
-ghost use lib.ListN.{length, drop};
+ghost use mathlib.Core.Bool.{true};
+ghost use Prim.Native.Nat.{_*_, min};
+ghost use lib.ListN.{length};
 ghost use Rattle.octets.specs.Bytes.{hex?};
 ghost use Rattle.numerals.specs.Numeral.{every};
-ghost use Rattle.lines.specs.Reading.{line-end, line-with, gathering, spelled, answer, filled};
+ghost use Rattle.lines.specs.Reading.{line-end, gathered-line, gathering, spelled, answer, filled};
 ghost use Rattle.lines.specs.Pairs.{pairs};
 
 // The most digits that a line may have.
@@ -44,7 +43,7 @@ pub fn line_end(s: &[u8]) -> usize
 // is longer than `line` fills it.
 pub fn gather(piece: &[u8], line: &mut [u8], held: usize) -> Gathered
     ensures answers { λ r. ⌜ r ≡ gathering (now (line .entry)) held (now (piece .entry)) ⌝ }
-    ensures writes { λ _. ⌜ now (line .exit) ≡ line-with (now (line .entry)) held (now (piece .entry)) ++ drop (length (line-with (now (line .entry)) held (now (piece .entry)))) (now (line .entry)) ⌝ }
+    ensures writes { λ _. ⌜ now (line .exit) ≡ gathered-line (now (line .entry)) held (now (piece .entry)) ⌝ }
 {
     let e = line_end(piece);
     let h = least(held, line.len());

@@ -1,12 +1,12 @@
 -- A loop that copies a run of bytes, and bytes that are put one behind the other.
-use mathlib.Core.Path.{_≡_, refl, sym, _∙_, ap, ap₂, subst}
+use mathlib.Core.Path.{_≡_, sym, _∙_, ap, ap₂}
 use mathlib.Core.List.{List, [], _∷_, _++_, append-assoc, append-nil}
 use Prim.Native.Nat.{ℕ, suc, _+_, _-_, _<_, _≤_}
 use native.Mathlib.Numerals.{add-one}
 use native.Mathlib.Omega.{arith}
 use lib.Dec.{leb}
 use lib.ListN.{length, getD, take, drop, set, length-append, length-drop, drop-of-length-le, take-append-drop}
-use lib.Seq.{take-suc, take-at, take-all, take-append-le, take-take, drop-cons, drop-drop, drop-append-add, set-at, length-take-le}
+use lib.Seq.{take-suc, take-at, take-all, drop-cons, drop-drop, drop-append-add, set-at, length-take-le}
 use borrow.Author.Tests.{le-leb, lt-leb, leb-true, leb-false}
 use Rattle.numerals.specs.Numeral as Numeral
 use Rattle.numerals.proofs.Digits.{split, at-true, at-false, put-fits, put-short}

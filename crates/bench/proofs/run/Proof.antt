@@ -1,90 +1,67 @@
-use mathlib.Core.Path.{_≡_, refl, sym, _∙_, ap}
+-- `bench::run` meets its contract. The last line fits, as every line does.
+use mathlib.Core.Path.{sym, _∙_}
 use native.Mathlib.Omega.{arith}
-use lib.ListN.{length, take}
+use lib.ListN.{take}
 use lib.Seq.{length-take-le}
 use Rattle.bench.proofs.Says.{said-short}
 use borrow.Author.Needs.{needs}
 use Rattle.bench.proofs.run.Statement.{statement}
 use Rattle.bench.proofs.run.Tie as tie
-use Rattle.bench.proofs.run.Reads as reads
-use Rattle.bench.proofs.run.Lts as lts
-use Rattle.bench.proofs.put_line.Reads as put-line-reads
-use Rattle.bench.proofs.read_all.Reads as read-all-reads
-use Rattle.io.proofs.write_all.Reads as write-all-reads
 
--- src/main.rt:47:9
 read-all-requires : tie.Need-read-all-requires
 read-all-requires c κs = search needs
 
--- src/main.rt:49:29
 slice-reshare-prefix-put-line : tie.Need-slice-reshare-prefix-put-line
 slice-reshare-prefix-put-line c = search needs
 
--- src/main.rt:49:29
 slice-aggregate-put-line : tie.Need-slice-aggregate-put-line
 slice-aggregate-put-line c = sym (length-take-le (c .before .before .before .before .before .before .before .before .before .before .before .before .read-all .result) (c .before .before .before .before .before .before .before .before .before .before .before .before .read-all .last .1 .0) (omega (arith, c .before .before .before .before .before .before .before .before .before .before .before .before .read-all .ensures, c .before .before .before .before .before .before .before .before .before .before .before .before .read-all .kept .1 .0, c .before .before .before .before .before .before .before .before .before .before .before .before .before .before .before .before .before .before .before .before .before .before .before .pre .1)))
 
--- src/main.rt:49:13
 put-line-requires : tie.Need-put-line-requires
 put-line-requires c κs = (c .before .before .before .before .before .before .before .before .before .before .before .before .before .before .before .read-all .kept .1 .1 .0 ∙ c .before .before .before .before .before .before .before .before .before .before .before .before .before .before .before .before .before .before .before .before .before .before .before .before .before .before .pre .2, c .before .before .before .before .before .before .before .before .before .before .before .before .before .before .before .read-all .kept .1 .1 .1 .0 ∙ c .before .before .before .before .before .before .before .before .before .before .before .before .before .before .before .before .before .before .before .before .before .before .before .before .before .before .pre .3, omega (arith, said-short (take (c .before .before .before .before .before .before .before .before .before .before .before .before .before .before .before .read-all .result) (c .before .before .before .before .before .before .before .before .before .before .before .before .before .before .before .read-all .last .1 .0)), c .before .before .before .before .before .before .before .before .before .before .before .before .before .before .before .read-all .kept .1 .1 .1 .1 .0, c .before .before .before .before .before .before .before .before .before .before .before .before .before .before .before .before .before .before .before .before .before .before .before .before .before .before .pre .4))
 
--- src/main.rt:50:38
 slice-reshare-prefix-write-all : tie.Need-slice-reshare-prefix-write-all
 slice-reshare-prefix-write-all c = omega (arith, c .before .before .before .before .before .before .put-line .ensures .0, said-short (take (c .before .before .before .before .before .before .before .before .before .before .before .before .before .before .before .before .before .before .before .before .before .before .read-all .result) (c .before .before .before .before .before .before .before .before .before .before .before .before .before .before .before .before .before .before .before .before .before .before .read-all .last .1 .0)), c .before .before .before .before .before .before .put-line .kept .1 .1 .1 .0, c .before .before .before .before .before .before .before .before .before .before .before .before .before .before .before .before .before .before .before .before .before .before .read-all .kept .1 .1 .1 .1 .0, c .before .before .before .before .before .before .before .before .before .before .before .before .before .before .before .before .before .before .before .before .before .before .before .before .before .before .before .before .before .before .before .before .before .pre .4)
 
--- src/main.rt:50:38
 slice-aggregate-write-all : tie.Need-slice-aggregate-write-all
 slice-aggregate-write-all c = sym (length-take-le (c .before .before .before .before .before .before .before .put-line .result) (c .before .before .before .before .before .before .before .put-line .last .1 .1 .1 .0) (omega (arith, c .before .before .before .before .before .before .before .put-line .ensures .0, said-short (take (c .before .before .before .before .before .before .before .before .before .before .before .before .before .before .before .before .before .before .before .before .before .before .before .read-all .result) (c .before .before .before .before .before .before .before .before .before .before .before .before .before .before .before .before .before .before .before .before .before .before .before .read-all .last .1 .0)), c .before .before .before .before .before .before .before .put-line .kept .1 .1 .1 .0, c .before .before .before .before .before .before .before .before .before .before .before .before .before .before .before .before .before .before .before .before .before .before .before .read-all .kept .1 .1 .1 .1 .0, c .before .before .before .before .before .before .before .before .before .before .before .before .before .before .before .before .before .before .before .before .before .before .before .before .before .before .before .before .before .before .before .before .before .before .pre .4)))
 
--- src/main.rt:50:9
 write-all-requires : tie.Need-write-all-requires
 write-all-requires c κs = search needs
 
--- src/main.rt:44:1
 same-length : tie.Need-same-length
 same-length c = search needs
 
--- src/main.rt:44:1
 same-length-2 : tie.Need-same-length-2
 same-length-2 c = search needs
 
--- src/main.rt:44:1
 same-length-3 : tie.Need-same-length-3
 same-length-3 c = search needs
 
--- src/main.rt:44:1
 same-length-4 : tie.Need-same-length-4
 same-length-4 c = search needs
 
--- src/main.rt:44:1
 same-length-5 : tie.Need-same-length-5
 same-length-5 c = search needs
 
--- src/main.rt:44:1
 returns : tie.Need-returns
 returns c = search needs
 
--- src/main.rt:44:1
 same-length-6 : tie.Need-same-length-6
 same-length-6 c = search needs
 
--- src/main.rt:44:1
 same-length-7 : tie.Need-same-length-7
 same-length-7 c = search needs
 
--- src/main.rt:44:1
 same-length-8 : tie.Need-same-length-8
 same-length-8 c = search needs
 
--- src/main.rt:44:1
 same-length-9 : tie.Need-same-length-9
 same-length-9 c = search needs
 
--- src/main.rt:44:1
 same-length-10 : tie.Need-same-length-10
 same-length-10 c = search needs
 
--- src/main.rt:44:1
 returns-2 : tie.Need-returns-2
 returns-2 c = search needs
 

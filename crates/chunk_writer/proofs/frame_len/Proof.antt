@@ -1,5 +1,5 @@
-use mathlib.Core.Path.{ap₂}
-use mathlib.Core.Path.{_≡_, refl, sym, _∙_, ap}
+-- `chunk_writer::frame_len` meets its contract. No sum wraps, since a size has at most 64 digits; the length is that of full chunks and the rest.
+use mathlib.Core.Path.{ap₂, sym, _∙_, ap}
 use Prim.Native.Nat.{ℕ, _+_, _*_, _/_, _≤_}
 use native.Mathlib.Omega.{arith}
 use lib.ListN.{length}
@@ -8,15 +8,10 @@ use Rattle.chunk_writer.proofs.Cuts.{hex-short, rest-short, lines-fit, 
 use borrow.Author.Needs.{needs}
 use Rattle.chunk_writer.proofs.frame_len.Statement.{statement}
 use Rattle.chunk_writer.proofs.frame_len.Tie as tie
-use Rattle.chunk_writer.proofs.frame_len.Reads as reads
-use Rattle.chunk_writer.proofs.frame_len.Lts as lts
-use Rattle.numerals.proofs.hex_width.Reads as hex-width-reads
 
--- src/lib.rt:53:16
 div-full : tie.Need-div-full
 div-full c = search needs
 
--- src/lib.rt:54:16
 rem-rest : tie.Need-rem-rest
 rem-rest c = search needs
 
@@ -30,39 +25,30 @@ lines c =
 hex-width-requires : tie.Need-hex-width-requires
 hex-width-requires c κs = search needs
 
--- src/lib.rt:55:36
 add-len : tie.Need-add-len
 add-len c = omega (arith, lines c .0)
 
--- src/lib.rt:55:28
 mul-len : tie.Need-mul-len
 mul-len c = omega (arith, lines c .1)
 
--- src/lib.rt:55:15
 add-len-2 : tie.Need-add-len-2
 add-len-2 c = omega (arith, lines c .1, c .before .before .pre .1)
 
--- src/lib.rt:55:15
 add-len-3 : tie.Need-add-len-3
 add-len-3 c = omega (arith, lines c .1, c .before .before .pre .1)
 
--- src/lib.rt:57:9
 returns : tie.Need-returns
 returns c = ap (λ (w : ℕ). length (c .before .before .before .args .body .now) + length (c .before .before .before .args .body .now) / c .before .before .before .args .n * (w + 4) + 5) (c .before .hex-width .ensures) ∙ sym (frame-full (c .before .before .before .args .n) (c .before .before .before .pre .0) (c .before .before .before .args .body .now) (c .if1 .taken))
 
--- src/lib.rt:59:11
 hex-width-requires-2 : tie.Need-hex-width-requires-2
 hex-width-requires-2 c κs = search needs
 
--- src/lib.rt:59:5
 add-result : tie.Need-add-result
 add-result c = omega (arith, lines (c .before .before) .1, c .before .before .before .before .pre .1, c .hex-width2 .ensures, rest-short (length (c .before .before .before .before .args .body .now)) (c .before .before .before .before .args .n) (c .before .before .before .before .pre .0) (omega arith))
 
--- src/lib.rt:59:5
 add-result-2 : tie.Need-add-result-2
 add-result-2 c = omega (arith, lines (c .before .before) .1, c .before .before .before .before .pre .1, c .hex-width2 .ensures, rest-short (length (c .before .before .before .before .args .body .now)) (c .before .before .before .before .args .n) (c .before .before .before .before .pre .0) (omega arith))
 
--- src/lib.rt:49:1
 returns-2 : tie.Need-returns-2
 returns-2 c = ap₂ (λ (w r : ℕ). length (c .before .before .before .before .args .body .now) + length (c .before .before .before .before .args .body .now) / c .before .before .before .before .args .n * (w + 4) + 5 + r + 4) (c .before .before .hex-width .ensures) (c .hex-width2 .ensures) ∙ sym (frame-rest (c .before .before .before .before .args .n) (c .before .before .before .before .pre .0) (c .before .before .before .before .args .body .now) (omega (arith, c .before .if1 .left)))
 

@@ -1,3 +1,4 @@
+-- `lines::from_hex` meets its contract. By the case of the answer.
 use borrow.Author.Tests.{not-true, not-false}
 use mathlib.Core.Path.{sym, _∙_}
 use Prim.Native.Nat.{_/_}
@@ -8,48 +9,34 @@ use Rattle.lines.proofs.Hexes.{too-many, odd, other, half, no-room, goo
 use borrow.Author.Needs.{needs}
 use Rattle.lines.proofs.from_hex.Statement.{statement}
 use Rattle.lines.proofs.from_hex.Tie as tie
-use Rattle.lines.proofs.from_hex.Reads as reads
-use Rattle.lines.proofs.from_hex.Lts as lts
-use Rattle.lines.proofs.all_hex.Reads as all-hex-reads
-use Rattle.lines.proofs.put_pairs.Reads as put-pairs-reads
 
--- src/lib.rt:74:9
 returns : tie.Need-returns
 returns c = bad-is (c .before .before .before .args .line .now) (c .before .before .before .args .out .now) (too-many (c .before .before .before .args .line .now) (length (c .before .before .before .args .out .now)) (c .if1 .taken))
 
--- src/lib.rt:77:9
 returns-2 : tie.Need-returns-2
 returns-2 c = bad-is (c .before .before .before .before .args .line .now) (c .before .before .before .before .args .out .now) (odd (c .before .before .before .before .args .line .now) (length (c .before .before .before .before .args .out .now)) (c .before .if1 .left) (c .if2 .taken))
 
--- src/lib.rt:79:9
 all-hex-requires : tie.Need-all-hex-requires
 all-hex-requires c κs = search needs
 
--- src/lib.rt:80:9
 returns-3 : tie.Need-returns-3
 returns-3 c = bad-is (c .before .before .before .before .before .before .args .line .now) (c .before .before .before .before .before .before .args .out .now) (other (c .before .before .before .before .before .before .args .line .now) (length (c .before .before .before .before .before .before .args .out .now)) (c .before .before .before .if1 .left) (sym (c .before .all-hex .ensures) ∙ not-true (c .before .all-hex .result) (c .if3 .taken)))
 
--- src/lib.rt:84:9
 returns-4 : tie.Need-returns-4
 returns-4 c = bad-is (c .before .before .before .before .before .before .before .args .line .now) (c .before .before .before .before .before .before .before .args .out .now) (no-room (c .before .before .before .before .before .before .before .args .line .now) (length (c .before .before .before .before .before .before .before .args .out .now)) (c .before .before .before .before .if1 .left) (c .before .before .before .if2 .left) (sym (c .before .before .all-hex .ensures) ∙ not-false (c .before .before .all-hex .result) (c .before .if3 .left)) (c .if4 .taken))
 
--- src/lib.rt:86:21
 slice-relend-prefix-put-pairs : tie.Need-slice-relend-prefix-put-pairs
 slice-relend-prefix-put-pairs c = search needs
 
--- src/lib.rt:86:21
 slice-aggregate-put-pairs : tie.Need-slice-aggregate-put-pairs
 slice-aggregate-put-pairs c = sym (length-take-le (length (c .before .before .before .before .before .before .before .before .args .line .now) / 2) (c .before .before .before .before .before .before .before .before .args .out .now) (c .before .if4 .left))
 
--- src/lib.rt:86:5
 put-pairs-requires : tie.Need-put-pairs-requires
 put-pairs-requires c κs = (omega (arith, c .before .before .before .before .if2 .left, length-take-le (length (c .before .before .before .before .before .before .before .before .args .line .now) / 2) (c .before .before .before .before .before .before .before .before .args .out .now) (c .before .if4 .left)), sym (c .before .before .before .all-hex .ensures) ∙ not-false (c .before .before .before .all-hex .result) (c .before .before .if3 .left))
 
--- src/lib.rt:69:1
 same-length : tie.Need-same-length
 same-length c = search needs
 
--- src/lib.rt:69:1
 returns-5 : tie.Need-returns-5
 returns-5 c = good-is (c .before .before .before .before .before .before .before .before .before .before .before .args .line .now) (c .before .before .before .before .before .before .before .before .before .before .before .args .out .now) (c .before .before .put-pairs .last .1 .0) (length (c .before .before .before .before .before .before .before .before .before .before .before .args .line .now) / 2) (sym (half (c .before .before .before .before .before .before .before .before .before .before .before .args .line .now) (length (c .before .before .before .before .before .before .before .before .before .before .before .args .out .now)) (c .before .before .before .before .before .before .before .before .if1 .left) (c .before .before .before .before .before .before .before .if2 .left) (sym (c .before .before .before .before .before .before .all-hex .ensures) ∙ not-false (c .before .before .before .before .before .before .all-hex .result) (c .before .before .before .before .before .if3 .left)))) (c .before .before .put-pairs .ensures) (good (c .before .before .before .before .before .before .before .before .before .before .before .args .line .now) (length (c .before .before .before .before .before .before .before .before .before .before .before .args .out .now)) (c .before .before .before .before .before .before .before .before .if1 .left) (c .before .before .before .before .before .before .before .if2 .left) (sym (c .before .before .before .before .before .before .all-hex .ensures) ∙ not-false (c .before .before .before .before .before .before .all-hex .result) (c .before .before .before .before .before .if3 .left)) (c .before .before .before .before .if4 .left))
 

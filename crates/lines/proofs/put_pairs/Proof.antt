@@ -1,19 +1,14 @@
-use mathlib.Core.Path.{refl, sym, _∙_, subst}
-use lib.ListN.{set}
-use mathlib.Core.Path.{_≡_}
-use Prim.Native.Nat.{ℕ, _+_, _-_, _*_, _≤_}
+-- `lines::put_pairs` meets its contract. The first i pairs are put.
+use mathlib.Core.Path.{refl, sym, subst, _≡_}
+use lib.ListN.{set, length}
+use Prim.Native.Nat.{ℕ, _+_, _-_, _*_}
 use native.Mathlib.Omega.{arith}
 use borrow.Author.Needs.{needs}
-use lib.ListN.{length, getD}
-use Rattle.octets.specs.Bytes.{hex?}
 use Rattle.text.proofs.Placing.{Front, front-length, front-on, front-all}
 use Rattle.lines.specs.Pairs.{pairs}
 use Rattle.lines.proofs.Hexes.{digit-below, pair-is, pairs-length}
 use Rattle.lines.proofs.put_pairs.Statement.{statement}
 use Rattle.lines.proofs.put_pairs.Tie as tie
-use Rattle.lines.proofs.put_pairs.Reads as reads
-use Rattle.lines.proofs.put_pairs.Lts as lts
-use Rattle.octets.proofs.hex_value.Reads as hex-value-reads
 
 abbrev Inv-loop : tie.InvT-loop
 Inv-loop line out₀ i₀ j₀ out i j = (j ≡ 2 * i) × Front out₀ (pairs line) out i
@@ -21,55 +16,42 @@ Inv-loop line out₀ i₀ j₀ out i j = (j ≡ 2 * i) × Front out₀ (pairs li
 abbrev μ-loop : tie.MeasureT-loop
 μ-loop line out₀ i₀ j₀ out i j = length out₀ - i
 
--- src/lib.rt:110:5
 loop-holds : tie.Need-loop-holds Inv-loop μ-loop
 loop-holds c = (refl, record { is = refl; within = omega arith })
 
--- src/lib.rt:111:36
 shared-slice-read-hex-value : tie.Need-shared-slice-read-hex-value Inv-loop μ-loop
 shared-slice-read-hex-value c = omega (arith, front-length (c .before .before .before .before .before .args .out .now) (pairs (c .before .before .before .before .before .args .line .now)) (c .before .before .loop .out) (c .before .before .loop .i) (sym (pairs-length (c .before .before .before .before .before .args .line .now) (length (c .before .before .before .before .before .args .out .now)) (c .before .before .before .before .before .pre .0))) (c .before .before .loop .inv .1), c .before .before .before .before .before .pre .0)
 
--- src/lib.rt:111:18
 hex-value-requires : tie.Need-hex-value-requires Inv-loop μ-loop
 hex-value-requires c κs = search needs
 
--- src/lib.rt:111:18
 mul-out : tie.Need-mul-out Inv-loop μ-loop
 mul-out c = omega (arith, digit-below (c .before .before .before .before .before .before .args .line .now) (c .before .before .before .before .before .before .pre .1) (c .before .before .before .loop .j) (c .hex-value .result) (omega (arith, front-length (c .before .before .before .before .before .before .args .out .now) (pairs (c .before .before .before .before .before .before .args .line .now)) (c .before .before .before .loop .out) (c .before .before .before .loop .i) (sym (pairs-length (c .before .before .before .before .before .before .args .line .now) (length (c .before .before .before .before .before .before .args .out .now)) (c .before .before .before .before .before .before .pre .0))) (c .before .before .before .loop .inv .1), c .before .before .before .before .before .before .pre .0)) (c .hex-value .ensures))
 
--- src/lib.rt:111:75
 add-hex-value : tie.Need-add-hex-value Inv-loop μ-loop
 add-hex-value c = omega (arith, front-length (c .before .before .before .before .before .before .args .out .now) (pairs (c .before .before .before .before .before .before .args .line .now)) (c .before .before .before .loop .out) (c .before .before .before .loop .i) (sym (pairs-length (c .before .before .before .before .before .before .args .line .now) (length (c .before .before .before .before .before .before .args .out .now)) (c .before .before .before .before .before .before .pre .0))) (c .before .before .before .loop .inv .1), c .before .before .before .before .before .before .pre .0)
 
--- src/lib.rt:111:70
 shared-slice-read-hex-value-2 : tie.Need-shared-slice-read-hex-value-2 Inv-loop μ-loop
 shared-slice-read-hex-value-2 c = omega (arith, front-length (c .before .before .before .before .before .before .before .args .out .now) (pairs (c .before .before .before .before .before .before .before .args .line .now)) (c .before .before .before .before .loop .out) (c .before .before .before .before .loop .i) (sym (pairs-length (c .before .before .before .before .before .before .before .args .line .now) (length (c .before .before .before .before .before .before .before .args .out .now)) (c .before .before .before .before .before .before .before .pre .0))) (c .before .before .before .before .loop .inv .1), c .before .before .before .before .before .before .before .pre .0)
 
--- src/lib.rt:111:52
 hex-value-requires-2 : tie.Need-hex-value-requires-2 Inv-loop μ-loop
 hex-value-requires-2 c κs = search needs
 
--- src/lib.rt:111:18
 add-out : tie.Need-add-out Inv-loop μ-loop
 add-out c = omega (arith, digit-below (c .before .before .before .before .before .before .before .before .args .line .now) (c .before .before .before .before .before .before .before .before .pre .1) (c .before .before .before .before .before .loop .j) (c .before .before .hex-value .result) (omega (arith, front-length (c .before .before .before .before .before .before .before .before .args .out .now) (pairs (c .before .before .before .before .before .before .before .before .args .line .now)) (c .before .before .before .before .before .loop .out) (c .before .before .before .before .before .loop .i) (sym (pairs-length (c .before .before .before .before .before .before .before .before .args .line .now) (length (c .before .before .before .before .before .before .before .before .args .out .now)) (c .before .before .before .before .before .before .before .before .pre .0))) (c .before .before .before .before .before .loop .inv .1), c .before .before .before .before .before .before .before .before .pre .0)) (c .before .before .hex-value .ensures), digit-below (c .before .before .before .before .before .before .before .before .args .line .now) (c .before .before .before .before .before .before .before .before .pre .1) (c .before .before .before .before .before .loop .j + 1) (c .hex-value2 .result) (omega (arith, front-length (c .before .before .before .before .before .before .before .before .args .out .now) (pairs (c .before .before .before .before .before .before .before .before .args .line .now)) (c .before .before .before .before .before .loop .out) (c .before .before .before .before .before .loop .i) (sym (pairs-length (c .before .before .before .before .before .before .before .before .args .line .now) (length (c .before .before .before .before .before .before .before .before .args .out .now)) (c .before .before .before .before .before .before .before .before .pre .0))) (c .before .before .before .before .before .loop .inv .1), c .before .before .before .before .before .before .before .before .pre .0)) (c .hex-value2 .ensures))
 
--- src/lib.rt:111:9
 slice-write-out : tie.Need-slice-write-out Inv-loop μ-loop
 slice-write-out c = omega arith
 
--- src/lib.rt:112:9
 add-i : tie.Need-add-i Inv-loop μ-loop
 add-i c = omega (arith, front-length (c .before .before .before .before .before .before .before .before .args .out .now) (pairs (c .before .before .before .before .before .before .before .before .args .line .now)) (c .before .before .before .before .before .loop .out) (c .before .before .before .before .before .loop .i) (sym (pairs-length (c .before .before .before .before .before .before .before .before .args .line .now) (length (c .before .before .before .before .before .before .before .before .args .out .now)) (c .before .before .before .before .before .before .before .before .pre .0))) (c .before .before .before .before .before .loop .inv .1), c .before .before .before .before .before .before .before .before .pre .0)
 
--- src/lib.rt:113:9
 add-j : tie.Need-add-j Inv-loop μ-loop
 add-j c = omega (arith, front-length (c .before .before .before .before .before .before .before .before .args .out .now) (pairs (c .before .before .before .before .before .before .before .before .args .line .now)) (c .before .before .before .before .before .loop .out) (c .before .before .before .before .before .loop .i) (sym (pairs-length (c .before .before .before .before .before .before .before .before .args .line .now) (length (c .before .before .before .before .before .before .before .before .args .out .now)) (c .before .before .before .before .before .before .before .before .pre .0))) (c .before .before .before .before .before .loop .inv .1), c .before .before .before .before .before .before .before .before .pre .0)
 
--- src/lib.rt:110:5
 loop-less : tie.Need-loop-less Inv-loop μ-loop
 loop-less c = omega (arith, front-length (c .before .before .before .before .before .before .before .before .args .out .now) (pairs (c .before .before .before .before .before .before .before .before .args .line .now)) (c .before .before .before .before .before .loop .out) (c .before .before .before .before .before .loop .i) (sym (pairs-length (c .before .before .before .before .before .before .before .before .args .line .now) (length (c .before .before .before .before .before .before .before .before .args .out .now)) (c .before .before .before .before .before .before .before .before .pre .0))) (c .before .before .before .before .before .loop .inv .1), c .before .before .before .before .before .before .before .before .pre .0)
 
--- src/lib.rt:110:5
 loop-again : tie.Need-loop-again Inv-loop μ-loop
 loop-again c = (
   omega arith,
@@ -78,11 +60,9 @@ loop-again c = (
       (front-on (c .before .before .before .before .before .before .before .before .args .out .now) (pairs (c .before .before .before .before .before .before .before .before .args .line .now)) (c .before .before .before .before .before .loop .out) (c .before .before .before .before .before .loop .i) (sym (pairs-length (c .before .before .before .before .before .before .before .before .args .line .now) (length (c .before .before .before .before .before .before .before .before .args .out .now)) (c .before .before .before .before .before .before .before .before .pre .0))) (c .before .before .before .before .before .loop .inv .1) (omega (arith, front-length (c .before .before .before .before .before .before .before .before .args .out .now) (pairs (c .before .before .before .before .before .before .before .before .args .line .now)) (c .before .before .before .before .before .loop .out) (c .before .before .before .before .before .loop .i) (sym (pairs-length (c .before .before .before .before .before .before .before .before .args .line .now) (length (c .before .before .before .before .before .before .before .before .args .out .now)) (c .before .before .before .before .before .before .before .before .pre .0))) (c .before .before .before .before .before .loop .inv .1), (sym (pairs-length (c .before .before .before .before .before .before .before .before .args .line .now) (length (c .before .before .before .before .before .before .before .before .args .out .now)) (c .before .before .before .before .before .before .before .before .pre .0)))))),
 )
 
--- src/lib.rt:104:1
 same-length : tie.Need-same-length Inv-loop μ-loop
 same-length c = front-length (c .before .before .before .before .args .out .now) (pairs (c .before .before .before .before .args .line .now)) (c .before .loop .out) (c .before .loop .i) (sym (pairs-length (c .before .before .before .before .args .line .now) (length (c .before .before .before .before .args .out .now)) (c .before .before .before .before .pre .0))) (c .before .loop .inv .1)
 
--- src/lib.rt:104:1
 returns : tie.Need-returns Inv-loop μ-loop
 returns c = front-all (c .before .before .before .before .args .out .now) (pairs (c .before .before .before .before .args .line .now)) (c .before .loop .out) (c .before .loop .i) (sym (pairs-length (c .before .before .before .before .args .line .now) (length (c .before .before .before .before .args .out .now)) (c .before .before .before .before .pre .0))) (c .before .loop .inv .1) (omega (arith, front-length (c .before .before .before .before .args .out .now) (pairs (c .before .before .before .before .args .line .now)) (c .before .loop .out) (c .before .loop .i) (sym (pairs-length (c .before .before .before .before .args .line .now) (length (c .before .before .before .before .args .out .now)) (c .before .before .before .before .pre .0))) (c .before .loop .inv .1), (sym (pairs-length (c .before .before .before .before .args .line .now) (length (c .before .before .before .before .args .out .now)) (c .before .before .before .before .pre .0)))))
 

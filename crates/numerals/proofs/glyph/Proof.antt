@@ -1,32 +1,25 @@
+-- `numerals::glyph` meets its contract. By whether the digit is below ten.
 use mathlib.Core.Path.{sym}
 use Rattle.numerals.proofs.Digits.{glyph-below, glyph-above}
 use borrow.Author.Needs.{needs}
 use Rattle.numerals.proofs.glyph.Statement.{statement}
 use Rattle.numerals.proofs.glyph.Tie as tie
-use Rattle.numerals.proofs.glyph.Reads as reads
-use Rattle.numerals.proofs.glyph.Lts as lts
 
--- src/lib.rt:80:22
 cast-result : tie.Need-cast-result
 cast-result c = search needs
 
--- src/lib.rt:80:17
 add-result : tie.Need-add-result
 add-result c = search needs
 
--- src/lib.rt:80:44
 cast-result-2 : tie.Need-cast-result-2
 cast-result-2 c = search needs
 
--- src/lib.rt:80:39
 add-result-2 : tie.Need-add-result-2
 add-result-2 c = search needs
 
--- src/lib.rt:76:1
 returns : tie.Need-returns
 returns c = sym (glyph-below (c .before .args .d) (c .if1 .taken))
 
--- src/lib.rt:76:1
 returns-2 : tie.Need-returns-2
 returns-2 c = sym (glyph-above (c .before .args .d) (c .if1 .left))
 

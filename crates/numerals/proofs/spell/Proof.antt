@@ -1,17 +1,12 @@
-use mathlib.Core.Path.{subst}
-use mathlib.Core.List.{List}
-use Prim.Native.Nat.{ℕ, _-_, _%_, _/_}
+-- `numerals::spell` meets its contract. The digits from place i on are spelled.
+use mathlib.Core.Path.{subst, sym}
+use Prim.Native.Nat.{ℕ, _-_, _/_}
 use lib.ListN.{set}
-use mathlib.Core.Path.{_≡_, sym, _∙_}
 use native.Mathlib.Omega.{arith}
 use native.Mathlib.Nat.{mod-lt}
-use borrow.Author.Needs.{needs}
 use Rattle.numerals.proofs.Digits.{Spelled, spelled-none, spelled-length, spelled-on, spelled-all}
 use Rattle.numerals.proofs.spell.Statement.{statement}
 use Rattle.numerals.proofs.spell.Tie as tie
-use Rattle.numerals.proofs.spell.Reads as reads
-use Rattle.numerals.proofs.spell.Lts as lts
-use Rattle.numerals.proofs.glyph.Reads as glyph-reads
 
 abbrev Inv-loop : tie.InvT-loop
 Inv-loop n base out₀ i₀ rest₀ out i rest = Spelled base n out₀ out i rest
@@ -19,43 +14,33 @@ Inv-loop n base out₀ i₀ rest₀ out i rest = Spelled base n out₀ out i res
 abbrev μ-loop : tie.MeasureT-loop
 μ-loop n base out₀ i₀ rest₀ out i rest = i
 
--- src/lib.rt:69:5
 loop-holds : tie.Need-loop-holds Inv-loop μ-loop
 loop-holds c = spelled-none (c .before .args .base) (c .before .args .n) (c .before .args .out .now)
 
--- src/lib.rt:70:9
 sub-i : tie.Need-sub-i Inv-loop μ-loop
 sub-i c = omega arith
 
--- src/lib.rt:71:24
 rem-glyph : tie.Need-rem-glyph Inv-loop μ-loop
 rem-glyph c = omega arith
 
--- src/lib.rt:71:18
 glyph-requires : tie.Need-glyph-requires Inv-loop μ-loop
 glyph-requires c κs = omega (arith, mod-lt (c .before .loop .rest) {m = c .before .before .before .args .base} (omega arith))
 
--- src/lib.rt:71:9
 slice-write-out : tie.Need-slice-write-out Inv-loop μ-loop
 slice-write-out c = omega (arith, c .before .before .loop .inv .within, spelled-length (c .before .before .before .before .args .base) (c .before .before .before .before .args .n) (c .before .before .before .before .args .out .now) (c .before .before .loop .out) (c .before .before .loop .i) (c .before .before .loop .rest) (c .before .before .loop .inv))
 
--- src/lib.rt:72:9
 div-rest : tie.Need-div-rest Inv-loop μ-loop
 div-rest c = omega arith
 
--- src/lib.rt:69:5
 loop-less : tie.Need-loop-less Inv-loop μ-loop
 loop-less c = omega arith
 
--- src/lib.rt:69:5
 loop-again : tie.Need-loop-again Inv-loop μ-loop
 loop-again c = subst (λ (g : ℕ). Spelled (c .before .before .before .before .args .base) (c .before .before .before .before .args .n) (c .before .before .before .before .args .out .now) (set (c .before .before .loop .out) (c .before .before .loop .i - 1) g) (c .before .before .loop .i - 1) (c .before .before .loop .rest / c .before .before .before .before .args .base)) (sym (c .glyph .ensures)) (spelled-on (c .before .before .before .before .args .base) (c .before .before .before .before .args .n) (c .before .before .before .before .args .out .now) (c .before .before .loop .out) (c .before .before .loop .i) (c .before .before .loop .rest) (c .before .loop-test .taken) (c .before .before .loop .inv))
 
--- src/lib.rt:63:1
 same-length : tie.Need-same-length Inv-loop μ-loop
 same-length c = spelled-length (c .before .before .before .args .base) (c .before .before .before .args .n) (c .before .before .before .args .out .now) (c .before .loop .out) (c .before .loop .i) (c .before .loop .rest) (c .before .loop .inv)
 
--- src/lib.rt:63:1
 returns : tie.Need-returns Inv-loop μ-loop
 returns c = spelled-all (c .before .before .before .args .base) (c .before .before .before .args .n) (c .before .before .before .args .out .now) (c .before .loop .out) (c .before .loop .i) (c .before .loop .rest) (c .loop-test .left) (c .before .loop .inv)
 

@@ -1,3 +1,4 @@
+-- `text::copy` meets its contract. The first i bytes are copied; what is left falls.
 use borrow.Author.Needs.{needs}
 use Prim.Native.Nat.{_-_}
 use native.Mathlib.Omega.{arith}
@@ -5,8 +6,6 @@ use lib.ListN.{length}
 use Rattle.text.proofs.Placing.{Front, front-length, front-on, front-all}
 use Rattle.text.proofs.copy.Statement.{statement}
 use Rattle.text.proofs.copy.Tie as tie
-use Rattle.text.proofs.copy.Reads as reads
-use Rattle.text.proofs.copy.Lts as lts
 
 abbrev Inv-loop : tie.InvT-loop
 Inv-loop src dst₀ i₀ dst i = Front dst₀ src dst i
@@ -14,35 +13,27 @@ Inv-loop src dst₀ i₀ dst i = Front dst₀ src dst i
 abbrev μ-loop : tie.MeasureT-loop
 μ-loop src dst₀ i₀ dst i = length src - i
 
--- src/lib.rt:122:5
 loop-holds : tie.Need-loop-holds Inv-loop μ-loop
 loop-holds c = search needs
 
--- src/lib.rt:123:18
 shared-slice-read-dst : tie.Need-shared-slice-read-dst Inv-loop μ-loop
 shared-slice-read-dst c = search needs
 
--- src/lib.rt:123:9
 slice-write-dst : tie.Need-slice-write-dst Inv-loop μ-loop
 slice-write-dst c = omega (arith, front-length (c .before .before .before .args .dst .now) (c .before .before .before .args .src .now) (c .before .before .loop .dst) (c .before .before .loop .i) (c .before .before .before .pre) (c .before .before .loop .inv))
 
--- src/lib.rt:124:9
 add-i : tie.Need-add-i Inv-loop μ-loop
 add-i c = search needs
 
--- src/lib.rt:122:5
 loop-less : tie.Need-loop-less Inv-loop μ-loop
 loop-less c = search needs
 
--- src/lib.rt:122:5
 loop-again : tie.Need-loop-again Inv-loop μ-loop
 loop-again c = front-on (c .before .before .before .args .dst .now) (c .before .before .before .args .src .now) (c .before .before .loop .dst) (c .before .before .loop .i) (c .before .before .before .pre) (c .before .before .loop .inv) (c .before .loop-test .taken)
 
--- src/lib.rt:117:1
 same-length : tie.Need-same-length Inv-loop μ-loop
 same-length c = front-length (c .before .before .args .dst .now) (c .before .before .args .src .now) (c .before .loop .dst) (c .before .loop .i) (c .before .before .pre) (c .before .loop .inv)
 
--- src/lib.rt:117:1
 returns : tie.Need-returns Inv-loop μ-loop
 returns c = front-all (c .before .before .args .dst .now) (c .before .before .args .src .now) (c .before .loop .dst) (c .before .loop .i) (c .before .before .pre) (c .before .loop .inv) (c .loop-test .left)
 

@@ -1,3 +1,4 @@
+-- `text::put_bytes` meets its contract. By where the bytes fit.
 use mathlib.Core.Path.{refl}
 use Prim.Native.Nat.{_+_}
 use native.Mathlib.Omega.{arith}
@@ -6,47 +7,34 @@ use Rattle.text.proofs.Placing.{puts-nothing, puts-part}
 use borrow.Author.Needs.{needs}
 use Rattle.text.proofs.put_bytes.Statement.{statement}
 use Rattle.text.proofs.put_bytes.Tie as tie
-use Rattle.text.proofs.put_bytes.Reads as reads
-use Rattle.text.proofs.put_bytes.Lts as lts
-use Rattle.text.proofs.copy.Reads as copy-reads
 
--- src/lib.rt:16:9
 returns : tie.Need-returns
 returns c = puts-nothing (c .before .before .before .args .out .now) (c .before .before .before .args .at) (c .before .before .before .args .src .now) (omega arith)
 
--- src/lib.rt:18:20
 sub-if2 : tie.Need-sub-if2
 sub-if2 c = search needs
 
--- src/lib.rt:19:9
 returns-2 : tie.Need-returns-2
 returns-2 c = puts-nothing (c .before .before .before .before .args .out .now) (c .before .before .before .before .args .at) (c .before .before .before .before .args .src .now) (omega arith)
 
--- src/lib.rt:21:13
 add-e : tie.Need-add-e
 add-e c = search needs
 
--- src/lib.rt:22:15
 sub-copy : tie.Need-sub-copy
 sub-copy c = search needs
 
--- src/lib.rt:22:15
 part-copy-start : tie.Need-part-copy-start
 part-copy-start c = search needs
 
--- src/lib.rt:22:15
 part-copy-end : tie.Need-part-copy-end
 part-copy-end c = search needs
 
--- src/lib.rt:22:5
 copy-requires : tie.Need-copy-requires
 copy-requires c κs = search needs
 
--- src/lib.rt:11:1
 same-length : tie.Need-same-length
 same-length c = search needs
 
--- src/lib.rt:11:1
 returns-3 : tie.Need-returns-3
 returns-3 c = puts-part (c .before .before .before .before .before .before .before .before .args .out .now) (c .before .before .before .before .before .before .before .before .args .at) (c .before .before .before .before .before .before .before .before .args .src .now) (c .before .before .copy .last .1 .0) (c .before .before .before .before .before .before .before .before .args .at + length (c .before .before .before .before .before .before .before .before .args .src .now)) (omega arith) refl (c .before .before .copy .ensures)
 

@@ -1,54 +1,41 @@
+-- `text::put_decimal` meets its contract. By where the number fits.
 use native.Mathlib.Omega.{arith}
 use Rattle.numerals.specs.Numeral.{numeral}
 use Rattle.text.proofs.Placing.{puts-nothing, number-short, number-fits}
 use borrow.Author.Needs.{needs}
 use Rattle.text.proofs.put_decimal.Statement.{statement}
 use Rattle.text.proofs.put_decimal.Tie as tie
-use Rattle.text.proofs.put_decimal.Reads as reads
-use Rattle.text.proofs.put_decimal.Lts as lts
-use Rattle.numerals.proofs.put_decimal.Reads as put-decimal-reads
 
--- src/lib.rt:30:9
 returns : tie.Need-returns
 returns c = puts-nothing (c .before .before .args .out .now) (c .before .before .args .at) (numeral 10 (c .before .before .args .n)) (omega arith)
 
--- src/lib.rt:32:38
 sub-put-decimal : tie.Need-sub-put-decimal
 sub-put-decimal c = search needs
 
--- src/lib.rt:32:38
 part-put-decimal-start : tie.Need-part-put-decimal-start
 part-put-decimal-start c = search needs
 
--- src/lib.rt:32:38
 part-put-decimal-end : tie.Need-part-put-decimal-end
 part-put-decimal-end c = search needs
 
--- src/lib.rt:32:9
 put-decimal-requires : tie.Need-put-decimal-requires
 put-decimal-requires c κs = search needs
 
--- src/lib.rt:33:12
 sub-if2 : tie.Need-sub-if2
 sub-if2 c = search needs
 
--- src/lib.rt:34:9
 same-length : tie.Need-same-length
 same-length c = search needs
 
--- src/lib.rt:34:9
 returns-2 : tie.Need-returns-2
 returns-2 c = number-short (c .before .before .before .before .before .before .before .args .out .now) (c .before .before .before .put-decimal .last .1 .0) (c .before .before .before .before .before .before .before .args .at) (c .before .before .before .put-decimal .result) (numeral 10 (c .before .before .before .before .before .before .before .args .n)) (omega arith) (c .before .before .before .put-decimal .ensures .0) (c .before .before .before .put-decimal .ensures .1) (omega arith)
 
--- src/lib.rt:36:5
 add-result : tie.Need-add-result
 add-result c = search needs
 
--- src/lib.rt:25:1
 same-length-2 : tie.Need-same-length-2
 same-length-2 c = search needs
 
--- src/lib.rt:25:1
 returns-3 : tie.Need-returns-3
 returns-3 c = number-fits (c .before .before .before .before .before .before .before .args .out .now) (c .before .before .before .put-decimal .last .1 .0) (c .before .before .before .before .before .before .before .args .at) (c .before .before .before .put-decimal .result) (numeral 10 (c .before .before .before .before .before .before .before .args .n)) (omega arith) (c .before .before .before .put-decimal .ensures .0) (c .before .before .before .put-decimal .ensures .1) (omega arith)
 

@@ -1,54 +1,41 @@
+-- `text::put_hex` meets its contract. By where the number fits.
 use native.Mathlib.Omega.{arith}
 use Rattle.numerals.specs.Numeral.{numeral}
 use Rattle.text.proofs.Placing.{puts-nothing, number-short, number-fits}
 use borrow.Author.Needs.{needs}
 use Rattle.text.proofs.put_hex.Statement.{statement}
 use Rattle.text.proofs.put_hex.Tie as tie
-use Rattle.text.proofs.put_hex.Reads as reads
-use Rattle.text.proofs.put_hex.Lts as lts
-use Rattle.numerals.proofs.put_hex.Reads as put-hex-reads
 
--- src/lib.rt:44:9
 returns : tie.Need-returns
 returns c = puts-nothing (c .before .before .args .out .now) (c .before .before .args .at) (numeral 16 (c .before .before .args .n)) (omega arith)
 
--- src/lib.rt:46:34
 sub-put-hex : tie.Need-sub-put-hex
 sub-put-hex c = search needs
 
--- src/lib.rt:46:34
 part-put-hex-start : tie.Need-part-put-hex-start
 part-put-hex-start c = search needs
 
--- src/lib.rt:46:34
 part-put-hex-end : tie.Need-part-put-hex-end
 part-put-hex-end c = search needs
 
--- src/lib.rt:46:9
 put-hex-requires : tie.Need-put-hex-requires
 put-hex-requires c κs = search needs
 
--- src/lib.rt:47:12
 sub-if2 : tie.Need-sub-if2
 sub-if2 c = search needs
 
--- src/lib.rt:48:9
 same-length : tie.Need-same-length
 same-length c = search needs
 
--- src/lib.rt:48:9
 returns-2 : tie.Need-returns-2
 returns-2 c = number-short (c .before .before .before .before .before .before .before .args .out .now) (c .before .before .before .put-hex .last .1 .0) (c .before .before .before .before .before .before .before .args .at) (c .before .before .before .put-hex .result) (numeral 16 (c .before .before .before .before .before .before .before .args .n)) (omega arith) (c .before .before .before .put-hex .ensures .0) (c .before .before .before .put-hex .ensures .1) (omega arith)
 
--- src/lib.rt:50:5
 add-result : tie.Need-add-result
 add-result c = search needs
 
--- src/lib.rt:39:1
 same-length-2 : tie.Need-same-length-2
 same-length-2 c = search needs
 
--- src/lib.rt:39:1
 returns-3 : tie.Need-returns-3
 returns-3 c = number-fits (c .before .before .before .before .before .before .before .args .out .now) (c .before .before .before .put-hex .last .1 .0) (c .before .before .before .before .before .before .before .args .at) (c .before .before .before .put-hex .result) (numeral 16 (c .before .before .before .before .before .before .before .args .n)) (omega arith) (c .before .before .before .put-hex .ensures .0) (c .before .before .before .put-hex .ensures .1) (omega arith)
 
