@@ -1,5 +1,5 @@
 -- Over a chunk at a stroke: its line, where that is known to be one, its data, and the CR LF behind it.
-use mathlib.Core.Path.{_≡_, refl, sym, _∙_, ap, subst}
+use mathlib.Core.Path.{_≡_, sym, _∙_, ap, subst}
 use mathlib.Core.Bool.{true}
 use mathlib.Core.List.{List, [], _∷_, _++_, append-assoc}
 use mathlib.Core.Option.{some}
@@ -12,14 +12,13 @@ use Rattle.framing.specs.Answer as Framing
 use Rattle.framing.specs.Grammar.{LINE_LIMIT}
 use Rattle.framing.specs.declared.LinePos.{LinePos}
 use Rattle.framing.specs.declared.LinePos.the-variants.{First}
-use Rattle.framing.specs.declared.State.{State}
-use Rattle.framing.specs.declared.State.the-variants.{Line, Data, DataCr, DataLf, Dead}
-use Rattle.framing.specs.Machine.{lineStep, lineLive, lineEnds, sizeOf, step}
+use Rattle.framing.specs.declared.State.the-variants.{Line, Data, DataCr, DataLf}
+use Rattle.framing.specs.Machine.{lineStep, lineLive, lineEnds, step}
 use Rattle.framing.specs.Reading.{decode}
 use Rattle.framing.proofs.Cases.{false-true}
 use Rattle.framing.proofs.Scanning.{run-live}
 use Rattle.framing.proofs.Lines.{lineRun, line-sound, line-dead, line-no-cr, line-ends-live}
-use Rattle.framing.proofs.Rooms.{ends-size, size-grows}
+use Rattle.framing.proofs.Rooms.{sizeOf, ends-size, size-grows}
 use Rattle.chunked.specs.declared.Found.the-variants as Found
 use Rattle.chunked.specs.Passes.{At, LineAt, LineRead, Known, CrlfAt, ChunkAt, ChunkRead}
 use Rattle.chunked.proofs.Passes.{at-next, at-more, at-refuse, data-fits}

@@ -16,7 +16,7 @@ use Rattle.framing.specs.declared.LinePos.the-variants.{First}
 use Rattle.framing.specs.declared.State.{State}
 use Rattle.framing.specs.declared.State.the-variants.{Line, Data, DataCr}
 use Rattle.framing.specs.Machine.{step, emit, start}
-use Rattle.framing.specs.Scan.{Verdict, ended, Found, stop, run, out, scan, written}
+use Rattle.framing.specs.Scan.{ended, stop, out, scan, written}
 use Rattle.framing.specs.Reading.{judge, decode, decoded, after}
 use Rattle.framing.proofs.Scanning.{out-append, Stops, stop-stops}
 use Rattle.framing.proofs.Machines.{whole-of}
@@ -25,7 +25,7 @@ use Rattle.framing.proofs.Past.{Past, past}
 use Rattle.framing.proofs.Demands.{demands}
 use Rattle.octets.specs.declared.Refusal.{Refusal}
 use Rattle.chunked.specs.declared.Answer.{Answer}
-use Rattle.chunked.specs.declared.Answer.the-variants.{Whole, More, Refused}
+use Rattle.chunked.specs.declared.Answer.the-variants.{More, Refused}
 use Rattle.chunked.specs.Verdict.{verdict}
 use Rattle.chunked.specs.Passes.{At, dataTo, Copied, ChunkAt}
 use Rattle.chunked.proofs.Passes.{begins, at-start, first-fits}

@@ -2,8 +2,8 @@
 use mathlib.Core.Path.{_≡_, refl, sym, _∙_, ap, ap₂, subst}
 use mathlib.Core.Bool.{Bool, true, false, _&&_, cond}
 use mathlib.Core.List.{List, [], _∷_, _++_, append-assoc}
-use mathlib.Core.Option.{Option, none, some}
-use Prim.Native.Nat.{ℕ, zero, suc, _+_, _-_, _*_, _<_, _≤_}
+use mathlib.Core.Option.{none, some}
+use Prim.Native.Nat.{ℕ, suc, _+_, _-_, _*_, _<_, _≤_}
 use native.Mathlib.Omega.{arith}
 use lib.Dec.{eqb, ltb}
 use lib.ListN.{length, getD, take, drop, length-drop}
@@ -19,10 +19,9 @@ use Rattle.framing.specs.declared.LinePos.{LinePos}
 use Rattle.framing.specs.declared.LinePos.the-variants.{First, Size, Ext}
 use Rattle.framing.specs.declared.TrailPos.{TrailPos}
 use Rattle.framing.specs.declared.TrailPos.the-variants as TrailPos
-use Rattle.framing.specs.declared.State.{State}
-use Rattle.framing.specs.declared.State.the-variants.{Line, LineFeed, Data, DataCr, DataLf, Trail, EndLf, Done, Dead}
-use Rattle.framing.specs.Machine.{extStep, extEnds, extLive, lineStep, lineEnds, trailStep, trailEnds, trailLive, leaveLine, enterChunk, sizeOf, step, live}
-use Rattle.framing.specs.Reading.{judge, decode}
+use Rattle.framing.specs.declared.State.the-variants.{Line, LineFeed, Data, Trail, EndLf}
+use Rattle.framing.specs.Machine.{extStep, extEnds, extLive, lineStep, lineEnds, trailStep, trailEnds, trailLive, step, live}
+use Rattle.framing.specs.Reading.{decode}
 use Rattle.framing.proofs.Cases.{false-true}
 use Rattle.chunked.specs.declared.Sized.the-variants as Sized
 use Rattle.framing.proofs.Scanning.{run-append}

@@ -1,11 +1,11 @@
 -- A pass over the input: from a place and a state to the next, or to the answer.
 use mathlib.Core.Path.{_≡_, refl, sym, _∙_, ap, subst}
-use mathlib.Core.List.{List, [], _∷_, _++_}
-use mathlib.Core.Option.{Option, none, some}
-use Prim.Native.Nat.{ℕ, zero, suc, _+_, _-_, _<_, _≤_}
+use mathlib.Core.List.{List, [], _∷_}
+use mathlib.Core.Option.{none, some}
+use Prim.Native.Nat.{ℕ, zero, suc, _+_, _<_, _≤_}
 use native.Mathlib.Numerals.{add-one}
 use native.Mathlib.Omega.{arith}
-use lib.ListN.{length, getD, take, drop}
+use lib.ListN.{length, getD, take}
 use lib.Seq.{take-suc, take-take, length-take-le}
 use Rattle.framing.specs.Answer as Framing
 use Rattle.framing.specs.Grammar.{LINE_LIMIT}
@@ -13,15 +13,16 @@ use Rattle.framing.specs.declared.State.{State}
 use Rattle.framing.specs.declared.LinePos.{LinePos}
 use Rattle.framing.specs.declared.LinePos.the-variants.{First}
 use Rattle.framing.specs.declared.State.the-variants.{Line, LineFeed, Data}
-use Rattle.framing.specs.Machine.{step, emit, live, done, over, lineLive, pastRoom, sizeOf, InRoom, start}
-use Rattle.framing.specs.Scan.{Verdict, ended, refusal, Found, going, stop, run, out, scan, answer, Quiet}
+use Rattle.framing.specs.Machine.{step, live, done, over, lineLive, pastRoom, start}
+use Rattle.framing.specs.Scan.{Verdict, ended, refusal, stop, run, scan, answer, Quiet}
 use Rattle.framing.specs.Reading.{judge, decode}
-use Rattle.framing.proofs.Scanning.{run-append, Stops, quiet-on, quiet-going, stops-stop}
+use Rattle.framing.proofs.Scanning.{run-append, quiet-on, quiet-going, stops-stop}
 use Rattle.framing.proofs.Judging.{quiet-in}
 use Rattle.chunked.specs.declared.Answer.{Answer}
-use Rattle.chunked.specs.declared.Answer.the-variants.{Whole, More, Refused}
+use Rattle.chunked.specs.declared.Answer.the-variants.{Whole, More}
 use Rattle.chunked.specs.Verdict.{verdict}
 use Rattle.chunked.specs.Passes.{At, Last}
+use Rattle.framing.proofs.Rooms.{sizeOf, InRoom}
 
 pub begins : (room : ℕ) → judge room start ≡ none
 unfolding judge live lineLive done over pastRoom

@@ -1,12 +1,12 @@
 -- What the machine makes of the bytes that the code tells apart: the next state, and the verdict on it.
-use mathlib.Core.Path.{_≡_, refl, sym, _∙_, ap, subst}
+use mathlib.Core.Path.{_≡_, refl, _∙_, ap}
 use mathlib.Core.Bool.{Bool, true, false, _&&_, cond}
 use mathlib.Core.Option.{Option, none, some}
 use Prim.Native.Nat.{ℕ, zero, suc, _+_, _-_, _*_, _<_, _≤_}
 use native.Mathlib.Omega.{arith}
 use lib.Dec.{eqb, ltb}
 use borrow.Author.Tests.{eq-eqb, ne-eqb, lt-ltb, le-ltb, le-leb}
-use Rattle.octets.specs.Bytes.{hex?, octet?, hex-value}
+use Rattle.octets.specs.Bytes.{hex?, hex-value}
 use Rattle.framing.specs.Grammar.{LINE_LIMIT, TRAILER_LIMIT}
 use Rattle.framing.specs.declared.ExtPos.{ExtPos}
 use Rattle.framing.specs.declared.ExtPos.the-variants as ExtPos
@@ -16,10 +16,11 @@ use Rattle.framing.specs.declared.TrailPos.{TrailPos}
 use Rattle.framing.specs.declared.TrailPos.the-variants as TrailPos
 use Rattle.framing.specs.declared.State.{State}
 use Rattle.framing.specs.declared.State.the-variants.{Line, LineFeed, Data, DataCr, DataLf, Trail, EndLf, Done, Dead}
-use Rattle.framing.specs.Machine.{extStep, extEnds, extLive, lineStep, lineEnds, lineLive, trailStep, trailEnds, trailLive, leaveLine, enterChunk, step, live, done, pastRoom, over, sizeOf}
-use Rattle.framing.specs.Scan.{Verdict, ended, refusal, verdictOf, judgeBy}
+use Rattle.framing.specs.Machine.{extStep, extLive, lineStep, lineEnds, lineLive, trailStep, trailEnds, trailLive, leaveLine, enterChunk, step, live, done, pastRoom, over}
+use Rattle.framing.specs.Scan.{ended, refusal, verdictOf}
 use Rattle.framing.specs.Reading.{judge}
 use Rattle.framing.proofs.Cases.{to-cond}
+use Rattle.framing.proofs.Rooms.{sizeOf}
 
 -- ## Verdicts
 module _ (room : ℕ) where

@@ -1,5 +1,4 @@
 -- Document 01's number and values for each case of the answer.
-use Rattle.octets.specs.declared.Refusal.{Refusal}
 use Rattle.framing.specs.Answer as Framing
 use Rattle.chunked.specs.declared.Answer.{Answer}
 use Rattle.chunked.specs.declared.Answer.the-variants.{Whole, More, Refused}

@@ -2,24 +2,23 @@
 ghost use mathlib.Core.Path.{_≡_};
 ghost use mathlib.Core.Bool.{true, cond, _&&_};
 ghost use lib.Dec.{eqb};
-ghost use mathlib.Core.List.{[], _∷_, _++_};
+ghost use mathlib.Core.List.{[], _∷_};
 ghost use Prim.Native.Nat.{ℕ, _+_, _-_, _<_, _≤_};
-ghost use lib.ListN.{length, take, drop};
+ghost use lib.ListN.{length};
 ghost use Rattle.octets.specs.Bytes.{hex?, hex-value};
 ghost use Rattle.framing.specs.Answer.{whole, refused};
-ghost use Rattle.framing.specs.declared.LinePos.the-variants.{First, Size};
+ghost use Rattle.framing.specs.declared.LinePos.the-variants.{First};
 ghost use Rattle.framing.specs.declared.State.the-variants.{Line, LineFeed, Trail, EndLf};
 ghost use Rattle.framing.specs.Machine.{extStep, extEnds, extLive, trailStep, trailEnds, trailLive};
 ghost use Rattle.framing.specs.Reading.{after, decode as decodeIn};
 ghost use Rattle.chunked.specs.Verdict.{verdict};
+ghost use Rattle.chunked.specs.Runs.{blockAt};
 ghost use Rattle.chunked.specs.Passes.{At, SizeRead, LineRead, Last, LineAt, Known, CrlfAt, ChunkAt, ChunkRead};
 use framing::ExtPos;
+use framing::LINE_LIMIT;
+use framing::TRAILER_LIMIT;
 use framing::TrailPos;
 use octets::Refusal;
-
-const LINE_LIMIT: usize = 1024;
-
-const TRAILER_LIMIT: usize = 8192;
 
 // Whole: the bytes that the body takes, and the length of its data. More: the input may begin a body.
 pub enum Answer {
@@ -29,13 +28,13 @@ pub enum Answer {
 }
 
 // What the digits of a chunk line come to: their value and the place behind them, or the answer.
-pub enum Sized {
+enum Sized {
     Digits { value: usize, end: usize },
     Over(Answer),
 }
 
 // What a chunk line comes to: the size and the place of the data behind it, or the answer.
-pub enum Found {
+enum Found {
     Data { size: usize, at: usize },
     Over(Answer),
 }
@@ -48,8 +47,8 @@ pub fn decode(input: &[u8], out: &mut [u8]) -> Answer
 {
     let a = decide(input, out.len());
     match a {
-        Answer::Whole { taken, len } => {
-            copy(input, out, taken, len);
+        Answer::Whole { taken: _, len } => {
+            copy(input, out, len);
             a
         }
         Answer::More => a,
@@ -61,6 +60,7 @@ pub fn decode(input: &[u8], out: &mut [u8]) -> Answer
 pub fn decide(input: &[u8], room: usize) -> Answer
     ensures { λ r. ⌜ verdict r ≡ decodeIn room (now (input .entry)) ⌝ }
 {
+    // The place and the data so far; and the last line: its place, its bytes with CR LF, and its size.
     let mut i = 0;
     let mut t = 0;
     let mut p = 0;
@@ -86,10 +86,11 @@ pub fn decide(input: &[u8], room: usize) -> Answer
 }
 
 // Copies the data of a body that is whole: the second pass.
-fn copy(input: &[u8], out: &mut [u8], taken: usize, len: usize)
-    requires { ⌜ decodeIn (length (now out)) (now input) ≡ whole taken len ⌝ }
+fn copy(input: &[u8], out: &mut [u8], len: usize)
+    requires { ⌜ ((taken : ℕ) × (decodeIn (length (now out)) (now input) ≡ whole taken len)) ⌝ }
     ensures { λ _. ⌜ now (out .exit) ≡ after (now (input .entry)) (now (out .entry)) ⌝ }
 {
+    // As in the first pass; `o` bytes of data are written.
     let room = out.len();
     let mut i = 0;
     let mut o = 0;
@@ -172,6 +173,7 @@ fn again(input: &[u8], p: usize, w: usize, v: usize, i: usize, left: usize) -> b
     same(&input[p..p + w], &input[i..i + w])
 }
 
+// A refusal as an answer.
 fn refuse(number: u8, place: usize) -> Answer
     ensures { λ r. ⌜ verdict r ≡ refused number place ⌝ }
 {
@@ -505,7 +507,7 @@ fn copy_bytes(dst: &mut [u8], src: &[u8])
 // Copies the block at `k`.
 fn copy_block(dst: &mut [u8], src: &[u8], k: usize)
     requires { ⌜ (length (now dst) ≡ length (now src)) × (k + 16 ≤ length (now src)) ⌝ }
-    ensures { λ _. ⌜ now (dst .exit) ≡ take k (now (dst .entry)) ++ (take 16 (drop k (now (src .entry))) ++ drop 16 (drop k (now (dst .entry)))) ⌝ }
+    ensures { λ _. ⌜ now (dst .exit) ≡ blockAt (now (src .entry)) (now (dst .entry)) k ⌝ }
 {
     let e = k + 16;
     put_block(&mut dst[k..e], block(&src[k..e]));

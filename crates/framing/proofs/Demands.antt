@@ -1,9 +1,9 @@
 -- Demands 2 and 3 for chunked bodies, over the grammar, in every room. The words quoted are those of document 01 and of the demands.
-use mathlib.Core.Path.{_≡_, refl, sym, _∙_, ap, subst}
-use mathlib.Core.List.{List, [], _∷_, _++_, append-nil}
+use mathlib.Core.Path.{_≡_, ap}
+use mathlib.Core.List.{List, _∷_, _++_}
 use mathlib.Core.Logic.{_↔_}
-use Prim.Native.Nat.{ℕ, suc, _<_, _≤_}
-use lib.ListN.{length, take, drop}
+use Prim.Native.Nat.{ℕ, _≤_}
+use lib.ListN.{length, drop}
 use Rattle.framing.specs.Grammar.{Body, Broken}
 use Rattle.framing.specs.Answer as Answer
 use Rattle.framing.specs.Demand.{Live, BeginsWhole, Unfinished, Malformed, Over, Decodes}

@@ -1,7 +1,7 @@
 -- The machine for chunk extensions agrees with the grammar.
 use mathlib.Core.Path.{_≡_, refl, sym, _∙_, ap, subst}
-use mathlib.Core.Bool.{Bool, true, false, cond}
-use mathlib.Core.List.{List, [], _∷_, _++_, append-assoc, append-nil}
+use mathlib.Core.Bool.{true, false}
+use mathlib.Core.List.{List, [], _∷_, _++_, append-assoc}
 use Prim.Native.Nat.{ℕ}
 use lib.Dec.{eqb}
 use borrow.Author.Tests.{eqb-true}
@@ -76,7 +76,6 @@ from-between (between e) = e
 
 -- ## a byte back
 pub back : (e : ExtPos) (b : ℕ) (xs : List ℕ) → Rest (extStep e b) xs → Rest e (b ∷ xs)
-unfolding extStep
 back ExtPos.Between b xs = by-cond (λ (e : ExtPos). Rest e xs) (eqb b 59)
     (λ k h. rw (eqb-true b 59 k) (between (from-name0 h))) (λ k h. bad h)
 back ExtPos.Name0 b xs = by-cond (λ (e : ExtPos). Rest e xs) (token? b) to-name0 (λ k h. bad h)
@@ -94,7 +93,6 @@ back ExtPos.Pair b xs = by-cond (λ (e : ExtPos). Rest e xs) (escaped? b) quoted
 back ExtPos.Bad b xs = λ h. bad h
 
 pub rest-nil : (e : ExtPos) → extEnds e ≡ true → Rest e []
-unfolding extEnds
 rest-nil ExtPos.Between h = between G.none
 rest-nil ExtPos.Name0 h = false-true h
 rest-nil ExtPos.Name h = name G.none (plain G.none)
@@ -111,7 +109,7 @@ rest e (b ∷ xs) h = back e b xs (rest (extStep e b) xs h)
 -- ## From the grammar to the machine
 
 ends-semicolon : (a : ExtPos) → extEnds a ≡ true → extStep a 59 ≡ ExtPos.Name0
-unfolding extEnds extStep token?
+unfolding token?
 ends-semicolon ExtPos.Between h = refl
 ends-semicolon ExtPos.Name0 h = false-true h
 ends-semicolon ExtPos.Name h = refl
@@ -122,41 +120,36 @@ ends-semicolon ExtPos.Pair h = false-true h
 ends-semicolon ExtPos.Bad h = false-true h
 
 run-name : {n : List ℕ} → Many token? n → extRun ExtPos.Name n ≡ ExtPos.Name
-unfolding extStep
 run-name G.none = refl
 run-name (G.more h m) = rw h (run-name m)
 
 run-token : {n : List ℕ} → Many token? n → extRun ExtPos.Token n ≡ ExtPos.Token
-unfolding extStep
 run-token G.none = refl
 run-token (G.more h m) = rw h (run-token m)
 
 run-name0 : {n : List ℕ} → Some token? n → extRun ExtPos.Name0 n ≡ ExtPos.Name
-unfolding extStep
 run-name0 (G.some h m) = rw h (run-name m)
 
 close-quote : extStep ExtPos.Quoted 34 ≡ ExtPos.Between
-unfolding extStep text?
+unfolding text?
 close-quote = refl
 
 open-pair : extStep ExtPos.Quoted 92 ≡ ExtPos.Pair
-unfolding extStep text?
+unfolding text?
 open-pair = refl
 
 open-quote : extStep ExtPos.Value0 34 ≡ ExtPos.Quoted
-unfolding extStep token?
+unfolding token?
 open-quote = refl
 
 name-equals : extStep ExtPos.Name 61 ≡ ExtPos.Value0
-unfolding extStep token?
+unfolding token?
 name-equals = refl
 
 step-text : (b : ℕ) → text? b ≡ true → extStep ExtPos.Quoted b ≡ ExtPos.Quoted
-unfolding extStep
 step-text b h = rw h
 
 step-escaped : (b : ℕ) → escaped? b ≡ true → extStep ExtPos.Pair b ≡ ExtPos.Quoted
-unfolding extStep
 step-escaped b h = rw h
 
 run-inside : {i : List ℕ} → Inside i → extRun ExtPos.Quoted (i ++ (34 ∷ [])) ≡ ExtPos.Between
@@ -166,12 +159,11 @@ run-inside (G.pair {b = b} {xs = xs} h w) =
     run-step extStep ExtPos.Quoted 92 (b ∷ (xs ++ (34 ∷ []))) open-pair ∙ run-step extStep ExtPos.Pair b (xs ++ (34 ∷ [])) (step-escaped b h) ∙ run-inside w
 
 run-value : {v : List ℕ} → Value v → extEnds (extRun ExtPos.Value0 v) ≡ true
-unfolding extStep extEnds
 run-value (G.token (G.some h m)) = rw h (rw (run-token m) refl)
 run-value (G.quoted {xs = xs} w) = ap extEnds (run-step extStep ExtPos.Value0 34 (xs ++ (34 ∷ [])) open-quote ∙ run-inside w)
 
 run-extension : {x : List ℕ} → Extension x → (a : ExtPos) → extEnds a ≡ true → extEnds (extRun a x) ≡ true
-run-extension (G.bare {n = n} t) a h = rw (ends-semicolon a h) (rw (run-name0 t) (unfold extEnds in refl))
+run-extension (G.bare {n = n} t) a h = rw (ends-semicolon a h) (rw (run-name0 t) refl)
 run-extension (G.valued {n = n} {v = v} t w) a h =
     rw (run-step extStep a 59 (n ++ (61 ∷ v)) (ends-semicolon a h))
     (rw (run-append extStep ExtPos.Name0 n (61 ∷ v)) (rw (run-name0 t) (rw (run-step extStep ExtPos.Name 61 v name-equals) (run-value w))))
@@ -183,7 +175,6 @@ ext-sound (G.more {e = e} {es = es} x xs) a h = rw (run-append extStep a e es) (
 -- ## Live positions
 
 pub ext-dead : (e : ExtPos) (b : ℕ) → extLive e ≡ false → extLive (extStep e b) ≡ false
-unfolding extLive extStep
 ext-dead ExtPos.Between b h = false-true (sym h)
 ext-dead ExtPos.Name0 b h = false-true (sym h)
 ext-dead ExtPos.Name b h = false-true (sym h)
@@ -194,7 +185,7 @@ ext-dead ExtPos.Pair b h = false-true (sym h)
 ext-dead ExtPos.Bad b h = refl
 
 pub ext-no-cr : (e : ExtPos) → extLive (extStep e 13) ≡ false
-unfolding extLive extStep token? text? escaped?
+unfolding token? text? escaped?
 ext-no-cr ExtPos.Between = refl
 ext-no-cr ExtPos.Name0 = refl
 ext-no-cr ExtPos.Name = refl
@@ -205,7 +196,7 @@ ext-no-cr ExtPos.Pair = refl
 ext-no-cr ExtPos.Bad = refl
 
 pub ext-finish : (e : ExtPos) → extLive e ≡ true → (u : List ℕ) × (extEnds (extRun e u) ≡ true)
-unfolding extLive extStep extEnds token? text? escaped?
+unfolding token? text? escaped?
 ext-finish ExtPos.Between h = ([], refl)
 ext-finish ExtPos.Name0 h = (97 ∷ [], refl)
 ext-finish ExtPos.Name h = ([], refl)
@@ -216,7 +207,6 @@ ext-finish ExtPos.Pair h = (32 ∷ 34 ∷ [], refl)
 ext-finish ExtPos.Bad h = false-true h
 
 pub ext-ends-live : (e : ExtPos) → extEnds e ≡ true → extLive e ≡ true
-unfolding extLive extEnds
 ext-ends-live ExtPos.Between h = refl
 ext-ends-live ExtPos.Name0 h = refl
 ext-ends-live ExtPos.Name h = refl

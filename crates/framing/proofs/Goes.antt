@@ -9,9 +9,9 @@ use lib.Dec.{eqb}
 use lib.ListN.{length, length-append, replicate, length-replicate}
 use borrow.Author.Tests.{eqb-true}
 use Rattle.framing.specs.declared.LinePos.{LinePos}
-use Rattle.framing.specs.declared.LinePos.the-variants.{First, Size, Ext}
+use Rattle.framing.specs.declared.LinePos.the-variants.{First}
 use Rattle.framing.specs.declared.TrailPos.{TrailPos}
-use Rattle.framing.specs.declared.TrailPos.the-variants.{Start, Field, Content, Feed, Wrong}
+use Rattle.framing.specs.declared.TrailPos.the-variants.{Start}
 use Rattle.framing.specs.declared.State.{State}
 use Rattle.framing.specs.declared.State.the-variants.{Line, LineFeed, Data, DataCr, DataLf, Trail, EndLf, Done, Dead}
 use Rattle.framing.specs.Grammar as G
@@ -19,10 +19,10 @@ use Rattle.octets.specs.Bytes.{octet?, hex?}
 use Rattle.framing.specs.Grammar.{Many, Trailer, Chunk, Chunks, Body}
 use Rattle.framing.specs.Machine.{lineStep, lineEnds, lineLive, trailStep, trailEnds, trailLive, leaveLine, enterChunk, step, emit, live, start}
 use Rattle.framing.specs.Scan.{run, out}
-use Rattle.framing.proofs.Scanning.{run-append, run-step, out-append, run-live}
+use Rattle.framing.proofs.Scanning.{run-append, out-append, run-live}
 use Rattle.framing.proofs.Cases.{false-true, to-cond}
 use Rattle.framing.proofs.Lines.{lineRun, line-sound, line-dead, line-no-cr, line-finish, line-ends-live}
-use Rattle.framing.proofs.Trails.{trailRun, trail-sound, trail-dead, trail-no-cr, trail-finish, trail-ends-start, trail-live-start, ends-live}
+use Rattle.framing.proofs.Trails.{trailRun, trail-sound, trail-dead, trail-no-cr, trail-finish, trail-live-start, ends-live}
 
 -- over xs the machine goes from s to s′ and gives d
 pub record Goes (s : State) (xs d : List ℕ) (s′ : State) : Type 0 where

@@ -13,21 +13,21 @@ use Rattle.octets.specs.Bytes.{hex?, hex-value, octet?}
 use Rattle.framing.specs.declared.LinePos.{LinePos}
 use Rattle.framing.specs.declared.LinePos.the-variants.{First, Size, Ext}
 use Rattle.framing.specs.declared.TrailPos.{TrailPos}
-use Rattle.framing.specs.declared.TrailPos.the-variants.{Start, Field, Content, Feed, Wrong}
+use Rattle.framing.specs.declared.TrailPos.the-variants.{Start}
 use Rattle.framing.specs.declared.State.{State}
 use Rattle.framing.specs.declared.State.the-variants.{Line, LineFeed, Data, DataCr, DataLf, Trail, EndLf, Done, Dead}
 use Rattle.framing.specs.Grammar as G
 use Rattle.framing.specs.Grammar.{Many, valueFrom, Body, Broken, LINE_LIMIT, TRAILER_LIMIT}
-use Rattle.framing.specs.Machine.{lineStep, lineEnds, lineLive, trailStep, trailEnds, trailLive, leaveLine, enterChunk, step, emit, live, done, pastRoom, over, sizeOf, InRoom, start}
+use Rattle.framing.specs.Machine.{lineStep, lineEnds, lineLive, trailStep, trailEnds, trailLive, leaveLine, enterChunk, step, emit, live, done, pastRoom, over, start}
 use Rattle.framing.specs.Scan.{Verdict, judgeBy, run, out, Quiet}
 use Rattle.framing.proofs.Scanning.{run-append, run-live}
 use Rattle.framing.proofs.Machines.{Laws, judged-none}
-use Rattle.framing.proofs.Cases.{false-true, by-cond, to-cond}
+use Rattle.framing.proofs.Cases.{by-cond, to-cond}
 use Rattle.framing.proofs.Lines.{lineRun, line-sound, line-complete, line-dead, line-finish, line-ends-live, run-digits, run-size, digits-complete}
 use Rattle.framing.proofs.Trails.{trailRun, trail-sound, trail-complete, trail-dead, trail-finish, trail-ends-start, trail-live-start}
-use Rattle.framing.proofs.Goes.{Goes, then, goes-chunks, goes-line, goes-last-line, goes-trail, goes-body, Finish, finish, dead}
+use Rattle.framing.proofs.Goes.{then, goes-chunks, goes-line, goes-last-line, goes-trail, goes-body, Finish, finish, dead}
 use Rattle.framing.proofs.Past.{InLine, InTrail, Ended, Past, past}
-use Rattle.framing.proofs.Rooms.{run-in}
+use Rattle.framing.proofs.Rooms.{sizeOf, InRoom, run-in}
 
 no-limit : {A B : Type 0} {n : B} → none ≡ some n → A
 no-limit e = let z : _≡_ {A = ℕ} 0 1 = cc in absurd (omega arith)

@@ -9,4 +9,3 @@ pub mod Past
 pub mod Rooms
 pub mod Judging
 pub mod Demands
-pub mod Examples

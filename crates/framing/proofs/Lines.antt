@@ -1,19 +1,18 @@
 -- The machine for a chunk line agrees with the grammar.
-use mathlib.Core.Path.{_≡_, refl, sym, _∙_, ap, subst}
+use mathlib.Core.Path.{_≡_, refl, sym, subst}
 use mathlib.Core.Bool.{Bool, true, false, cond}
-use mathlib.Core.List.{List, [], _∷_, _++_, append-assoc, append-nil}
+use mathlib.Core.List.{List, [], _∷_, _++_}
 use mathlib.Core.Option.{Option, none, some}
 use Prim.Native.Nat.{ℕ, _+_, _*_}
 use native.Mathlib.Omega.{arith}
-use lib.Dec.{eqb}
 use Rattle.framing.specs.declared.ExtPos.{ExtPos}
 use Rattle.framing.specs.declared.ExtPos.the-variants as ExtPos
 use Rattle.framing.specs.declared.LinePos.{LinePos}
 use Rattle.framing.specs.declared.LinePos.the-variants.{First, Size, Ext}
 use Rattle.framing.specs.Grammar as G
-use Rattle.octets.specs.Bytes.{hex?, hex-value, token?, text?, escaped?}
-use Rattle.framing.specs.Grammar.{Many, Some, valueFrom, Extension, Extensions, Line}
-use Rattle.framing.specs.Machine.{extStep, extEnds, extLive, lineStep, lineEnds, lineLive}
+use Rattle.octets.specs.Bytes.{hex?, hex-value}
+use Rattle.framing.specs.Grammar.{Many, valueFrom, Extensions, Line}
+use Rattle.framing.specs.Machine.{extStep, extEnds, lineStep, lineEnds, lineLive}
 use Rattle.framing.specs.Scan.{run}
 use Rattle.framing.proofs.Scanning.{run-append}
 use Rattle.framing.proofs.Cases.{false-true, by-cond}
@@ -95,10 +94,10 @@ unfolding lineStep lineEnds hex?
 ends-size w G.none = refl
 ends-size w (G.more {es = es} (G.bare {n = n} t) xs) =
     rw (run-ext w (extStep ExtPos.Between 59) (n ++ es))
-    (rw (ext-sound (G.more (G.bare t) xs) ExtPos.Between (unfold extEnds in refl)) refl)
+    (rw (ext-sound (G.more (G.bare t) xs) ExtPos.Between refl) refl)
 ends-size w (G.more {es = es} (G.valued {n = n} {v = v} t y) xs) =
     rw (run-ext w (extStep ExtPos.Between 59) ((n ++ (61 ∷ v)) ++ es))
-    (rw (ext-sound (G.more (G.valued t y) xs) ExtPos.Between (unfold extEnds in refl)) refl)
+    (rw (ext-sound (G.more (G.valued t y) xs) ExtPos.Between refl) refl)
 
 pub line-sound : {xs : List ℕ} {v : ℕ} → Line xs v → lineEnds (lineRun First xs) ≡ some v
 line-sound (G.line {s = s} {e = e} {v = v} z x) = rw (run-append lineStep First s e) (rw (run-digits z) (ends-size v x))
@@ -148,7 +147,7 @@ line-dead (Ext v e) b h = ext-dead e b h
 
 pub line-no-cr : (p : LinePos) → lineLive (lineStep p 13) ≡ false
 unfolding lineLive lineStep hex?
-line-no-cr First = unfold extLive in refl
+line-no-cr First = refl
 line-no-cr (Size v) = ext-no-cr ExtPos.Between
 line-no-cr (Ext v e) = ext-no-cr e
 

@@ -1,5 +1,5 @@
 -- From the machine to the grammar: what the bytes behind a state are, in the grammar's words.
-use mathlib.Core.Path.{_≡_, refl, sym, _∙_, ap, ap₂, subst}
+use mathlib.Core.Path.{_≡_, refl, sym, _∙_, ap, subst}
 use mathlib.Core.Bool.{Bool, true, false, _&&_, cond}
 use mathlib.Core.List.{List, [], _∷_, _++_, append-assoc, append-nil}
 use mathlib.Core.Option.{Option, none, some}
@@ -9,14 +9,14 @@ use lib.Dec.{eqb}
 use lib.ListN.{length, length-append}
 use borrow.Author.Tests.{eqb-true}
 use Rattle.framing.specs.declared.LinePos.{LinePos}
-use Rattle.framing.specs.declared.LinePos.the-variants.{First, Size, Ext}
+use Rattle.framing.specs.declared.LinePos.the-variants.{First}
 use Rattle.framing.specs.declared.TrailPos.{TrailPos}
 use Rattle.framing.specs.declared.TrailPos.the-variants.{Start, Field, Content, Feed, Wrong}
 use Rattle.framing.specs.declared.State.{State}
 use Rattle.framing.specs.declared.State.the-variants.{Line, LineFeed, Data, DataCr, DataLf, Trail, EndLf, Done, Dead}
 use Rattle.framing.specs.Grammar as G
 use Rattle.octets.specs.Bytes.{octet?}
-use Rattle.framing.specs.Grammar.{Many, Trailer, Chunk, Chunks, Body}
+use Rattle.framing.specs.Grammar.{Many, Chunk, Chunks, Body}
 use Rattle.framing.specs.Machine.{lineStep, lineEnds, trailStep, trailEnds, leaveLine, enterChunk, step, emit, start}
 use Rattle.framing.specs.Scan.{run, out}
 use Rattle.framing.proofs.Scanning.{run-append}
@@ -95,7 +95,6 @@ Past (Done t) pre d = Ended t pre d
 Past Dead pre d = Unit {0}
 
 start-only : (q : TrailPos) → trailEnds q ≡ true → q ≡ Start
-unfolding trailEnds
 start-only Start z = refl
 start-only Field z = false-true z
 start-only Content z = false-true z
@@ -241,7 +240,7 @@ module _ (pre d : List ℕ) where
   end-on t e = let h : InTrail Start (e .0) (13 ∷ []) t pre d = e .1 in record {
     is = subst (λ (z : List ℕ). Body z d)
         (sym (ap (λ (z : List ℕ). z ++ (10 ∷ [])) (h .split) ∙ simp (append-assoc, append-nil)))
-        (G.body (h .are) (h .is) (trail-complete (h .part) (rw (h .at) (unfold trailEnds in refl))));
+        (G.body (h .are) (h .is) (trail-complete (h .part) (rw (h .at) refl)));
     total = h .total;
   }
 

@@ -1,7 +1,7 @@
 -- A state that breaks no limit is within the limits again; and what a larger room changes.
-use mathlib.Core.Path.{_≡_, refl, sym, _∙_, ap, subst}
+use mathlib.Core.Path.{_≡_, refl, sym}
 use mathlib.Core.Bool.{Bool, true, false, _&&_, cond}
-use mathlib.Core.List.{List, [], _∷_, _++_}
+use mathlib.Core.List.{List, [], _∷_}
 use mathlib.Core.Logic.{_⊎_, inl, inr}
 use mathlib.Core.Option.{Option, none, some}
 use Prim.Native.Nat.{ℕ, zero, suc, _+_, _*_, _≤_}
@@ -16,9 +16,27 @@ use Rattle.framing.specs.declared.TrailPos.{TrailPos}
 use Rattle.framing.specs.declared.State.{State}
 use Rattle.framing.specs.declared.State.the-variants.{Line, LineFeed, Data, DataCr, DataLf, Trail, EndLf, Done, Dead}
 use Rattle.framing.specs.Grammar.{LINE_LIMIT, TRAILER_LIMIT}
-use Rattle.framing.specs.Machine.{lineStep, lineEnds, extEnds, trailStep, trailEnds, leaveLine, enterChunk, step, pastRoom, over, sizeOf, InRoom}
+use Rattle.framing.specs.Machine.{lineStep, lineEnds, extEnds, trailStep, trailEnds, leaveLine, enterChunk, step, pastRoom, over}
 use Rattle.framing.specs.Scan.{run}
 use Rattle.framing.proofs.Cases.{by-cond, to-cond}
+
+-- the size that a line has read so far
+unfoldable pub sizeOf : LinePos → ℕ
+sizeOf First = 0
+sizeOf (Size v) = v
+sizeOf (Ext v e) = v
+
+-- a state whose numbers are within the limits
+unfoldable pub InRoom : ℕ → State → Type 0
+InRoom room (Line p k t) = (k ≤ LINE_LIMIT) × (t + sizeOf p ≤ room)
+InRoom room (LineFeed v t) = t + v ≤ room
+InRoom room (Data m t) = t ≤ room
+InRoom room (DataCr t) = t ≤ room
+InRoom room (DataLf t) = t ≤ room
+InRoom room (Trail p k t) = (k ≤ TRAILER_LIMIT) × (t ≤ room)
+InRoom room (EndLf t) = t ≤ room
+InRoom room (Done t) = t ≤ room
+InRoom room Dead = Unit {0}
 
 no-limit : {A : Type 0} {n : ℕ} → none ≡ some n → A
 no-limit e = let z : _≡_ {A = ℕ} 0 1 = cc in absurd (omega arith)

@@ -1,7 +1,7 @@
 -- The machine for trailer lines agrees with the grammar.
-use mathlib.Core.Path.{_≡_, refl, sym, _∙_, ap, subst}
-use mathlib.Core.Bool.{Bool, true, false, cond}
-use mathlib.Core.List.{List, [], _∷_, _++_, append-assoc, append-nil}
+use mathlib.Core.Path.{_≡_, refl, sym, _∙_, ap}
+use mathlib.Core.Bool.{true, false}
+use mathlib.Core.List.{List, [], _∷_, _++_}
 use Prim.Native.Nat.{ℕ}
 use lib.Dec.{eqb}
 use borrow.Author.Tests.{eqb-true}
@@ -51,7 +51,6 @@ from-start : {xs : List ℕ} → Rest Start xs → Trailer xs
 from-start (start t) = t
 
 back : (p : TrailPos) (b : ℕ) (xs : List ℕ) → Rest (trailStep p b) xs → Rest p (b ∷ xs)
-unfolding trailStep
 back Start b xs = by-cond (λ (p : TrailPos). Rest p xs) (token? b) to-start (λ k h. wrong h)
 back Field b xs = by-cond (λ (p : TrailPos). Rest p xs) (token? b) to-field (λ _.
     by-cond (λ (p : TrailPos). Rest p xs) (eqb b 58) (λ k h. rw (eqb-true b 58 k) (content-field h)) (λ k h. wrong h))
@@ -61,7 +60,6 @@ back Feed b xs = by-cond (λ (p : TrailPos). Rest p xs) (eqb b 10) (λ k h. rw (
 back Wrong b xs = λ h. wrong h
 
 rest-nil : (p : TrailPos) → trailEnds p ≡ true → Rest p []
-unfolding trailEnds
 rest-nil Start h = start G.none
 rest-nil Field h = false-true h
 rest-nil Content h = false-true h
@@ -78,25 +76,22 @@ trail-complete xs h = from-start (rest Start xs h)
 -- ## From the grammar to the machine
 
 run-field : {n : List ℕ} → Many token? n → trailRun Field n ≡ Field
-unfolding trailStep
 run-field G.none = refl
 run-field (G.more h m) = rw h (run-field m)
 
 run-name : {n : List ℕ} → Some token? n → trailRun Start n ≡ Field
-unfolding trailStep
 run-name (G.some h m) = rw h (run-field m)
 
 run-content : {f : List ℕ} → Many content? f → trailRun Content f ≡ Content
-unfolding trailStep
 run-content G.none = refl
 run-content (G.more h m) = rw h (run-content m)
 
 colon : trailStep Field 58 ≡ Content
-unfolding trailStep token?
+unfolding token?
 colon = refl
 
 crlf : trailStep (trailStep Content 13) 10 ≡ Start
-unfolding trailStep content?
+unfolding content?
 crlf = refl
 
 pub trail-sound : {xs : List ℕ} → Trailer xs → trailRun Start xs ≡ Start
@@ -113,7 +108,6 @@ trail-sound (G.more {n = n} {f = f} {t = t} a c r) =
 -- ## Live positions
 
 pub trail-dead : (p : TrailPos) (b : ℕ) → trailLive p ≡ false → trailLive (trailStep p b) ≡ false
-unfolding trailLive trailStep
 trail-dead Start b h = false-true (sym h)
 trail-dead Field b h = false-true (sym h)
 trail-dead Content b h = false-true (sym h)
@@ -122,7 +116,7 @@ trail-dead Wrong b h = refl
 
 -- the CR that closes the trailer is no byte of a line
 pub trail-no-cr : (p : TrailPos) → trailEnds p ≡ true → trailLive (trailStep p 13) ≡ false
-unfolding trailLive trailEnds trailStep token?
+unfolding token?
 trail-no-cr Start h = refl
 trail-no-cr Field h = false-true h
 trail-no-cr Content h = false-true h
@@ -130,7 +124,7 @@ trail-no-cr Feed h = false-true h
 trail-no-cr Wrong h = false-true h
 
 pub trail-finish : (p : TrailPos) → trailLive p ≡ true → (u : List ℕ) × (trailRun p u ≡ Start)
-unfolding trailLive trailStep token? content?
+unfolding token? content?
 trail-finish Start h = ([], refl)
 trail-finish Field h = (58 ∷ 13 ∷ 10 ∷ [], refl)
 trail-finish Content h = (13 ∷ 10 ∷ [], refl)
@@ -138,15 +132,12 @@ trail-finish Feed h = (10 ∷ [], refl)
 trail-finish Wrong h = false-true h
 
 pub trail-ends-start : trailEnds Start ≡ true
-unfolding trailEnds
 trail-ends-start = refl
 
 pub trail-live-start : trailLive Start ≡ true
-unfolding trailLive
 trail-live-start = refl
 
 pub ends-live : (p : TrailPos) → trailEnds p ≡ true → trailLive p ≡ true
-unfolding trailLive trailEnds
 ends-live Start h = refl
 ends-live Field h = refl
 ends-live Content h = refl

@@ -1,9 +1,9 @@
 -- A machine that reads a chunked body a byte at a time. Definitions alone.
-use mathlib.Core.Bool.{Bool, true, false, _&&_, not, cond}
-use mathlib.Core.List.{List, [], _∷_, _++_}
+use mathlib.Core.Bool.{Bool, true, false, _&&_, cond}
+use mathlib.Core.List.{List, [], _∷_}
 use mathlib.Core.Option.{Option, none, some}
-use Prim.Native.Nat.{ℕ, zero, suc, _+_, _*_, _≤_}
-use lib.Dec.{leb, ltb, eqb}
+use Prim.Native.Nat.{ℕ, zero, suc, _+_, _*_}
+use lib.Dec.{ltb, eqb}
 use Rattle.octets.specs.Bytes.{octet?, hex?, hex-value, token?, text?, escaped?, content?}
 use Rattle.framing.specs.Grammar.{LINE_LIMIT, TRAILER_LIMIT}
 use Rattle.framing.specs.declared.ExtPos.{ExtPos}
@@ -164,23 +164,6 @@ over room (Trail p k t) = cond (eqb k (suc TRAILER_LIMIT)) (some 6) none
 over room (EndLf t) = none
 over room (Done t) = none
 over room Dead = none
-
-unfoldable pub sizeOf : LinePos → ℕ
-sizeOf First = 0
-sizeOf (Size v) = v
-sizeOf (Ext v e) = v
-
--- a state whose numbers are within the limits
-unfoldable pub InRoom : ℕ → State → Type 0
-InRoom room (Line p k t) = (k ≤ LINE_LIMIT) × (t + sizeOf p ≤ room)
-InRoom room (LineFeed v t) = t + v ≤ room
-InRoom room (Data m t) = t ≤ room
-InRoom room (DataCr t) = t ≤ room
-InRoom room (DataLf t) = t ≤ room
-InRoom room (Trail p k t) = (k ≤ TRAILER_LIMIT) × (t ≤ room)
-InRoom room (EndLf t) = t ≤ room
-InRoom room (Done t) = t ≤ room
-InRoom room Dead = Unit {0}
 
 abbrev pub start : State
 start = Line First 0 0

@@ -1,5 +1,10 @@
 // Chunked bodies: the positions in a body at which a reader may stand. Their grammar, limits and demands are in specs/ and proofs/.
 
+// The most bytes of a chunk line, and of the trailer.
+pub const LINE_LIMIT: usize = 1024;
+
+pub const TRAILER_LIMIT: usize = 8192;
+
 // Where the extensions of a chunk line stand.
 pub enum ExtPos {
     Between,

@@ -16,3 +16,4 @@ pub mod Skips
 pub mod Repeats
 pub mod Pieces
 pub mod Comparing
+pub mod Plain

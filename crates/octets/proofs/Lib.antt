@@ -8,3 +8,4 @@ pub mod Scans
 pub mod Quoted
 pub mod SameBytes
 pub mod Writing
+pub mod Alike

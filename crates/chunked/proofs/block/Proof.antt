@@ -1,8 +1,8 @@
-use mathlib.Core.List.{List, [], _∷_}
-use Rattle.chunked.proofs.Runs.{Front, front-length, front-on, front-all}
-use mathlib.Core.Path.{_≡_, refl, sym, _∙_, ap, subst}
-use lib.ListN.{length, getD, take, drop}
-use Prim.Native.Nat.{ℕ, _+_, _-_, _<_, _≤_}
+use mathlib.Core.List.{[], _∷_}
+use Rattle.chunked.proofs.Runs.{Front, front-on, front-all}
+use mathlib.Core.Path.{_≡_, refl, sym}
+use lib.ListN.{length}
+use Prim.Native.Nat.{_-_, _≤_}
 use native.Mathlib.Omega.{arith}
 use borrow.Author.Needs.{needs}
 use Rattle.chunked.proofs.block.Statement.{statement}

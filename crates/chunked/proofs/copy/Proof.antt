@@ -13,10 +13,10 @@ use Rattle.chunked.proofs.copy.Statement.{statement}
 use Rattle.chunked.proofs.copy.Tie as tie
 
 abbrev Inv-loop : tie.InvT-loop
-Inv-loop input out₀ taken len room i₀ o₀ p₀ w₀ v₀ out i o p w v = Copied input out₀ out i o × Known input p w v
+Inv-loop input out₀ len room i₀ o₀ p₀ w₀ v₀ out i o p w v = Copied input out₀ out i o × Known input p w v
 
 abbrev μ-loop : tie.MeasureT-loop
-μ-loop input out₀ taken len room i₀ o₀ p₀ w₀ v₀ out i o p w v = length input - i
+μ-loop input out₀ len room i₀ o₀ p₀ w₀ v₀ out i o p w v = length input - i
 
 loop-holds : tie.Need-loop-holds Inv-loop μ-loop
 loop-holds c = (copied-start (c .before .before .args .input .now) (c .before .before .args .out .now), none-known)
@@ -106,7 +106,7 @@ same-length c = copied-length (c .before .before .before .before .before .before
 returns : tie.Need-returns Inv-loop μ-loop
 returns c =
     let r = subst (ChunkRead (length (c .before .before .before .before .before .before .before .before .before .args .out .now)) (c .before .before .before .before .before .before .before .before .before .args .input .now) (c .before .before .before .before .before .before .loop .i) (c .before .before .before .before .before .before .loop .o)) (c .enum-told .given .1) (c .before .before .chunk .ensures) in
-    absurd (omega (arith, r .total (c .before .before .before .before .before .before .before .before .before .args .taken) (c .before .before .before .before .before .before .before .before .before .args .len) (c .before .before .before .before .before .before .before .before .before .pre), c .before .before .before .before .before .loop-test .taken))
+    absurd (omega (arith, r .total (c .before .before .before .before .before .before .before .before .before .pre .0) (c .before .before .before .before .before .before .before .before .before .args .len) (c .before .before .before .before .before .before .before .before .before .pre .1), c .before .before .before .before .before .loop-test .taken))
 
 add-copy-run-3 : tie.Need-add-copy-run-3 Inv-loop μ-loop
 add-copy-run-3 c =
@@ -180,7 +180,7 @@ same-length-2 : tie.Need-same-length-2 Inv-loop μ-loop
 same-length-2 c = copied-length (c .before .before .before .before .args .input .now) (c .before .before .before .before .args .out .now) (c .before .loop .inv .0)
 
 returns-2 : tie.Need-returns-2 Inv-loop μ-loop
-returns-2 c = copied-all (c .before .before .before .before .args .input .now) (c .before .before .before .before .args .out .now) (c .before .before .before .before .pre) (c .before .loop .inv .0) (c .loop-test .left)
+returns-2 c = copied-all (c .before .before .before .before .args .input .now) (c .before .before .before .before .args .out .now) (c .before .before .before .before .pre .1) (c .before .loop .inv .0) (c .loop-test .left)
 
 pub copy-spec : {M : Type 1} → statement M
 copy-spec =

@@ -1,8 +1,5 @@
 use Rattle.chunked.proofs.Runs.{block-at}
-use mathlib.Core.Path.{_≡_, refl, sym, _∙_, ap, subst}
-use lib.ListN.{length, getD, take, drop}
-use Prim.Native.Nat.{ℕ, _+_, _-_, _<_, _≤_}
-use native.Mathlib.Omega.{arith}
+use mathlib.Core.Path.{_∙_}
 use borrow.Author.Needs.{needs}
 use Rattle.chunked.proofs.copy_block.Statement.{statement}
 use Rattle.chunked.proofs.copy_block.Tie as tie

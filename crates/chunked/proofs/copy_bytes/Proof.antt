@@ -1,8 +1,7 @@
 use borrow.Author.Needs.{needs}
-use mathlib.Core.Path.{_≡_, refl, sym, _∙_}
-use Prim.Native.Nat.{ℕ, _+_, _-_, _<_, _≤_}
+use Prim.Native.Nat.{_-_}
 use native.Mathlib.Omega.{arith}
-use lib.ListN.{length, getD, take, drop}
+use lib.ListN.{length}
 use Rattle.chunked.proofs.Runs.{Front, front-length, front-on, front-all}
 use Rattle.chunked.proofs.copy_bytes.Statement.{statement}
 use Rattle.chunked.proofs.copy_bytes.Tie as tie

@@ -1,9 +1,8 @@
 use Rattle.chunked.proofs.Runs.{Front, front-length, front-block, front-last}
-use mathlib.Core.Path.{_≡_, refl, sym, _∙_, ap, subst}
-use lib.ListN.{length, getD, take, drop}
-use Prim.Native.Nat.{ℕ, _+_, _-_, _<_, _≤_}
+use mathlib.Core.Path.{refl, _∙_}
+use lib.ListN.{length}
+use Prim.Native.Nat.{_-_, _<_, _≤_}
 use native.Mathlib.Omega.{arith}
-use borrow.Author.Needs.{needs}
 use Rattle.chunked.proofs.copy_run.Statement.{statement}
 use Rattle.chunked.proofs.copy_run.Tie as tie
 

@@ -7,7 +7,7 @@ use Rattle.chunked.proofs.decode.Statement.{statement}
 use Rattle.chunked.proofs.decode.Tie as tie
 
 copy-requires : tie.Need-copy-requires
-copy-requires c κs = sym (c .before .before .before .before .decide .ensures) ∙ ap verdict (c .before .before .a .given .1)
+copy-requires c κs = (_, sym (c .before .before .before .before .decide .ensures) ∙ ap verdict (c .before .before .a .given .1))
 
 returns : tie.Need-returns
 returns c = (ap verdict (sym (c .before .before .before .before .before .a .given .1)) ∙ c .before .before .before .before .before .before .before .decide .ensures, c .before .before .copy .ensures)

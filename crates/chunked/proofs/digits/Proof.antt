@@ -1,7 +1,7 @@
 -- `chunked::digits` meets its contract. The loop stands behind digits with the value v.
 use native.Mathlib.Omega.{arith}
 use borrow.Author.Needs.{needs}
-use Prim.Native.Nat.{ℕ, _+_, _-_, _*_, _<_, _≤_}
+use Prim.Native.Nat.{_-_}
 use lib.ListN.{length}
 use Rattle.chunked.proofs.Passes.{at-more, first-fits, last-more, last-refused}
 use Rattle.chunked.proofs.Lines.{InSize, size-start, size-first, size-read, size-long, size-past, size-on}

@@ -1,9 +1,9 @@
 use Rattle.framing.proofs.Cases.{false-true}
 use borrow.Author.Needs.{needs}
-use mathlib.Core.Path.{_≡_, refl, sym, _∙_}
-use Prim.Native.Nat.{ℕ, _+_, _-_, _<_, _≤_}
+use mathlib.Core.Path.{_≡_}
+use Prim.Native.Nat.{_-_, _≤_}
 use native.Mathlib.Omega.{arith}
-use lib.ListN.{length, getD, take, drop}
+use lib.ListN.{length, take}
 use Rattle.chunked.proofs.Runs.{same-on, same-all}
 use Rattle.chunked.proofs.same.Statement.{statement}
 use Rattle.chunked.proofs.same.Tie as tie

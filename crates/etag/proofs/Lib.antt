@@ -1,0 +1,4 @@
+pub mod Scan
+pub mod Within
+pub mod Parts
+pub mod Demands

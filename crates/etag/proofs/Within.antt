@@ -1,0 +1,31 @@
+-- The quoted bytes of a tag that was read stand within it, and are its opaque part.
+use Prim.Native.Nat.{ℕ, _+_, _≤_}
+use native.Mathlib.Omega.{arith}
+use mathlib.Core.Path.{_≡_, refl, sym, ap, subst, _∙_}
+use mathlib.Core.List.{List, [], _∷_}
+use lib.Dec.{T}
+use lib.ListN.{length}
+use Rattle.grammar.specs.Grammar.{Part, lower}
+use Rattle.grammar.specs.Reading as G
+use Rattle.grammar.specs.Judge.{header}
+use Rattle.grammar.specs.Slices.{Slices}
+use Rattle.grammar.proofs.Deterministic.{deterministic?}
+use Rattle.grammar.proofs.Pieces.{slice-within, slice-is, value-slices}
+use Rattle.octets.specs.Bytes.{text?, escaped?}
+use Rattle.etag.specs.declared.Tag.{Tag}
+use Rattle.etag.specs.Grammar.{Name, entity-tag, value, rules}
+use Rattle.etag.specs.Scan.{Within}
+
+pub one-way : T (deterministic? entity-tag)
+unfolding lower text? escaped?
+one-way = tt
+
+within-parts : (s : List ℕ) (ps : List (Part Name)) → Slices 0 s ps → Within s (value ps)
+within-parts s [] w = omega arith
+within-parts s (a ∷ []) w = slice-within s a (w .0)
+within-parts s (a ∷ b ∷ ps) w = slice-within s b (w .1 .0)
+
+pub within : (s : List ℕ) (v : Tag) → header rules s ≡ G.value v → Within s v
+within s v e =
+    let p = value-slices rules tt tt one-way s v e in
+    subst (Within s) (p .2) (within-parts s (p .0) (p .1))

@@ -1,0 +1,44 @@
+-- Document 01's numbers and values for each case of the answers; strong and weak matches of tags.
+use Prim.Native.Nat.{ℕ}
+use mathlib.Core.Bool.{Bool, true, false, _&&_, not}
+use mathlib.Core.List.{List}
+use lib.ListN.{take, drop}
+use Rattle.grammar.specs.Reading as G
+use Rattle.grammar.specs.Reading.{Verdict}
+use Rattle.grammar.specs.Comparing.{Comparison, outcome, refused-at, compare}
+use Rattle.grammar.specs.Judge.{header}
+use Rattle.octets.specs.Same.{same?}
+use Rattle.etag.specs.declared.Tag.{Tag}
+use Rattle.etag.specs.declared.Reading.{Reading}
+use Rattle.etag.specs.declared.Reading.the-variants.{Read, Refused}
+use Rattle.etag.specs.declared.Matching.{Matching}
+use Rattle.etag.specs.declared.Matching.the-variants.{Matches, Differs, FirstRefused, SecondRefused}
+use Rattle.etag.specs.Grammar.{rules}
+
+abbrev pub verdict : Reading → Verdict Tag
+verdict (Read v) = G.value v
+verdict (Refused r) = G.refused (r .number) (r .place)
+
+abbrev pub comparison : Matching → Comparison Bool
+comparison Matches = outcome true
+comparison Differs = outcome false
+comparison (FirstRefused r) = refused-at 1 (r .number) (r .place)
+comparison (SecondRefused r) = refused-at 2 (r .number) (r .place)
+
+-- the bytes between the quotes, as sent
+abbrev pub quoted : List ℕ → Tag → List ℕ
+quoted s v = take (v .len) (drop (v .start) s)
+
+-- "Weak match: the bytes alone."
+abbrev pub weakly : List ℕ → List ℕ → Tag → Tag → Bool
+weakly a b v w = same? (quoted a v) (quoted b w)
+
+-- "Strong match: neither is weak and the quoted bytes are the same as sent."
+abbrev pub strongly : List ℕ → List ℕ → Tag → Tag → Bool
+strongly a b v w = not (v .weak) && (not (w .weak) && same? (quoted a v) (quoted b w))
+
+abbrev pub weak-matching : List ℕ → List ℕ → Comparison Bool
+weak-matching a b = compare (weakly a b) (header rules a) (header rules b)
+
+abbrev pub strong-matching : List ℕ → List ℕ → Comparison Bool
+strong-matching a b = compare (strongly a b) (header rules a) (header rules b)

@@ -1,0 +1,98 @@
+// Language tags: RFC 2616 3.10.
+ghost use mathlib.Core.Path.{_≡_};
+ghost use Rattle.grammar.specs.Judge.{header};
+ghost use Rattle.language.specs.Grammar.{rules};
+ghost use Rattle.language.specs.Reading.{verdict, comparison, equality};
+ghost use Rattle.language.specs.Scan.{part-end};
+use octets::Refusal;
+
+// The longest header value, and the most letters of a part.
+const VALUE_LIMIT: usize = 8192;
+
+const PART_LIMIT: usize = 8;
+
+// How many parts a tag has, and how many letters the first of them has.
+pub struct Tag {
+    pub parts: usize,
+    pub primary_len: usize,
+}
+
+pub enum Reading {
+    Read(Tag),
+    Refused(Refusal),
+}
+
+// Whether two tags given as bytes are equal, or which of them was refused.
+pub enum Equality {
+    Equal,
+    Different,
+    FirstRefused(Refusal),
+    SecondRefused(Refusal),
+}
+
+// Parts of 1 to 8 letters joined by `-`.
+pub fn read(s: &[u8]) -> Reading
+    ensures { λ r. ⌜ verdict r ≡ header rules (now (s .entry)) ⌝ }
+{
+    if s.len() > VALUE_LIMIT {
+        return refused(13, VALUE_LIMIT);
+    }
+    let primary = part_end(s, 0);
+    if primary == 0 {
+        return refused(1, 0);
+    }
+    let mut parts = 1;
+    let mut at = primary;
+    while at < s.len() {
+        if s[at] != b'-' {
+            return refused(1, at);
+        }
+        let end = part_end(s, at + 1);
+        if end == at + 1 {
+            return refused(1, end);
+        }
+        parts += 1;
+        at = end;
+    }
+    Reading::Read(Tag {
+        parts,
+        primary_len: primary,
+    })
+}
+
+// Reads the first, then the second, and compares them, letter case ignored.
+pub fn equal(a: &[u8], b: &[u8]) -> Equality
+    ensures { λ r. ⌜ comparison r ≡ equality (now (a .entry)) (now (b .entry)) ⌝ }
+{
+    match read(a) {
+        Reading::Refused(r) => Equality::FirstRefused(r),
+        Reading::Read(_) => match read(b) {
+            Reading::Refused(r) => Equality::SecondRefused(r),
+            Reading::Read(_) => {
+                if octets::same_ignoring_case(a, b) {
+                    Equality::Equal
+                } else {
+                    Equality::Different
+                }
+            }
+        },
+    }
+}
+
+fn refused(number: u8, place: usize) -> Reading
+    ensures { λ r. ⌜ r ≡ Reading.Refused (record { number = number; place = place }) ⌝ }
+{
+    Reading::Refused(Refusal { number, place })
+}
+
+// The place behind the letters at `from`, of which a part takes at most eight.
+fn part_end(s: &[u8], from: usize) -> usize
+    ensures { λ r. ⌜ r ≡ part-end (now (s .entry)) from ⌝ }
+{
+    let end = octets::class_end(octets::LETTER, s, from);
+    if end - from > PART_LIMIT {
+        from + PART_LIMIT
+    } else {
+        end
+    }
+}
