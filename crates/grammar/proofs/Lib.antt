@@ -17,3 +17,6 @@ pub mod Repeats
 pub mod Pieces
 pub mod Comparing
 pub mod Plain
+pub mod Alike
+pub mod Regroup
+pub mod Values

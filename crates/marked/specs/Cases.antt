@@ -2,6 +2,7 @@
 use Prim.Native.Nat.{ℕ}
 use Prim.Native.String.{String}
 use mathlib.Core.Path.{_≡_}
+use mathlib.Core.Bool.{true}
 use mathlib.Core.List.{List, [], _∷_}
 use Rattle.grammar.specs.Comparing.{outcome, compare}
 use Rattle.grammar.specs.Reading as Header
@@ -12,6 +13,7 @@ use Rattle.version.specs.declared.Order.the-variants.{Less}
 use Rattle.version.specs.Grammar as VersionGrammar
 use Rattle.version.specs.Reading.{precedence}
 use Rattle.qvalue.specs.Grammar as QvalueGrammar
+use Rattle.url.specs.Meaning.{pages, same-page}
 use Rattle.framing.specs.Answer.{whole, refused}
 use Rattle.framing.specs.Reading.{decode}
 use Rattle.marked.specs.Text.{bytes}
@@ -21,6 +23,7 @@ pub data Case : Type 0 where
   version-below : (text other : String) → Case
   qvalue-is : (text : String) (thousandths : ℕ) → Case
   qvalue-refused : (text : String) (number place : ℕ) → Case
+  urls-equal : (text other : String) → Case
   body-whole : (room : ℕ) (text : String) (taken len : ℕ) → Case
   body-refused : (room : ℕ) (text : String) (number place : ℕ) → Case
 
@@ -29,6 +32,7 @@ Holds (version-is t m n) = header VersionGrammar.rules (bytes t) ≡ value (reco
 Holds (version-below t u) = compare precedence (header VersionGrammar.rules (bytes t)) (header VersionGrammar.rules (bytes u)) ≡ outcome Less
 Holds (qvalue-is t q) = header QvalueGrammar.rules (bytes t) ≡ value q
 Holds (qvalue-refused t n p) = header QvalueGrammar.rules (bytes t) ≡ Header.refused n p
+Holds (urls-equal t u) = compare same-page (header pages (bytes t)) (header pages (bytes u)) ≡ outcome true
 Holds (body-whole r t n k) = decode r (bytes t) ≡ whole n k
 Holds (body-refused r t n p) = decode r (bytes t) ≡ refused n p
 
@@ -43,6 +47,7 @@ table =
     ∷ version-is "HTTP/01.1" 1 1
     ∷ qvalue-is "0." 0
     ∷ qvalue-refused "1.001" 1 4
+    ∷ urls-equal "http://abc.com:80/~smith/home.html" "http://ABC.com:/%7esmith/home.html"
     ∷ body-whole 0 "0\r\n\r\n" 5 0
     ∷ body-refused 0 "1" 7 0
     ∷ []

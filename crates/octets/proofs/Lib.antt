@@ -9,3 +9,4 @@ pub mod Quoted
 pub mod SameBytes
 pub mod Writing
 pub mod Alike
+pub mod Words

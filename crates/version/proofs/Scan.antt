@@ -24,6 +24,7 @@ use Rattle.octets.specs.Case.{agreeing}
 use Rattle.octets.specs.Numbers.{number, decimal-at, number-limit}
 use Rattle.octets.proofs.Bytes.{digit-low}
 use Rattle.octets.proofs.Scans.{run-is, number-of, number-fits, number-reads, number-missing, number-passes, number-limits, word-reads}
+use Rattle.octets.proofs.Words.{word-whole, word-inside}
 use Rattle.version.specs.Grammar.{Name, major, minor, http, numbers, version, largest, rules}
 use Rattle.version.specs.Scan.{point-and-minor, major-part, AfterMajor}
 
@@ -32,21 +33,11 @@ point-apart : (j b : ℕ) → digit? b ≡ true → deriv point-and-minor j b �
 point-apart j b d = byte-step (just 46 tt) j b (part minor (plus (byte DIGIT))) ∙ rw (ne-eqb b 46 (λ e. absurd (omega (arith, digit-low b d))))
 
 -- all of the name stands there
-agreeing-short : (w s : List ℕ) → (agreeing w s ≤ length w) × (agreeing w s ≤ length s)
-agreeing-short [] s = (omega arith, omega arith)
-agreeing-short (a ∷ w) [] = (omega arith, omega arith)
-agreeing-short (a ∷ w) (b ∷ s) = go (eqb (lower b) (lower a)) (agreeing-short w s)
-  where
-    go : (x : Bool) → (agreeing w s ≤ length w) × (agreeing w s ≤ length s)
-        → (cond x (suc (agreeing w s)) 0 ≤ suc (length w)) × (cond x (suc (agreeing w s)) 0 ≤ suc (length s))
-    go true h = (omega (arith, h .0), omega (arith, h .1))
-    go false h = (omega arith, omega arith)
-
 pub name-is : (s : List ℕ) → 5 ≤ agreeing http s → agreeing http s ≡ 5
-name-is s h = omega (arith, agreeing-short http s .0)
+name-is s h = word-whole http s h
 
 pub name-inside : (s : List ℕ) → agreeing http s ≡ 5 → 5 ≤ length s
-name-inside s h = omega (arith, agreeing-short http s .1)
+name-inside s h = word-inside http s h
 
 module _ (s : List ℕ) (short : length s ≤ 8192) where
   -- the name

@@ -1,0 +1,55 @@
+-- `url::Url::read` meets its contract: each way out is what the grammar leaves there.
+use native.Mathlib.Omega.{arith}
+use borrow.Author.Needs.{needs}
+use mathlib.Core.Path.{_≡_, refl, sym, ap, _∙_}
+use Rattle.grammar.specs.Reading.{refused}
+use Rattle.grammar.proofs.Loop.{header-long}
+use Rattle.octets.proofs.Words.{word-whole, word-inside}
+use Rattle.url.specs.Bytes.{host?}
+use Rattle.url.specs.Grammar.{scheme, rules}
+use Rattle.url.specs.Reading.{verdict}
+use Rattle.url.proofs.Tables.{host-bits}
+use Rattle.url.proofs.Scan.{scheme-not, host-missing, host-reads}
+use Rattle.url.proofs.Url.read.Statement.{statement}
+use Rattle.url.proofs.Url.read.Tie as tie
+
+returns : tie.Need-returns
+returns c = ap verdict (c .refused .ensures) ∙ sym (header-long rules (c .before .before .before .args .s .now) (c .before .if1 .taken))
+
+returns-2 : tie.Need-returns-2
+returns-2 c =
+    let s = c .before .before .before .before .before .before .args .s .now in
+    let w = c .before .before .word-at in
+    ap verdict (c .refused2 .ensures)
+    ∙ sym (scheme-not s (c .before .before .before .before .if1 .left) (omega (arith, w .ensures, c .before .if2 .taken)) ∙ ap (refused 1) (sym (w .ensures)))
+
+returns-3 : tie.Need-returns-3
+returns-3 c =
+    let d = c .before .before in
+    let s = d .before .before .before .before .before .before .args .s .now in
+    let n = word-whole scheme s (omega (arith, d .before .before .word-at .ensures, d .before .if2 .left)) in
+    ap verdict (c .refused3 .ensures)
+    ∙ sym (host-missing s (d .before .before .before .before .if1 .left) n (word-inside scheme s n) (omega (arith, d .class-end .ensures host? host-bits, c .before .if3 .taken)))
+
+read-port-requires : tie.Need-read-port-requires
+read-port-requires c κs =
+    let d = c .before in
+    let s = d .before .before .before .before .before .before .args .s .now in
+    let n = word-whole scheme s (omega (arith, d .before .before .word-at .ensures, d .before .if2 .left)) in
+    host-reads s (d .before .before .before .before .if1 .left) n (word-inside scheme s n) (d .class-end .result) (d .class-end .ensures host? host-bits) (c .if3 .left)
+
+pub read-spec : {M : Type 1} → statement M
+read-spec =
+    tie.close
+    (tie.spec
+    (λ c κs. search needs)
+    returns
+    (λ c. search needs)
+    (λ c κs. search needs)
+    (λ c κs. search needs)
+    returns-2
+    (λ c κs. search needs)
+    (λ c κs. search needs)
+    returns-3
+    read-port-requires
+    (λ c. search needs))

@@ -1,0 +1,6 @@
+pub mod Bytes
+pub mod Grammar
+pub mod Meaning
+pub mod Reading
+pub mod Scan
+pub mod Places
