@@ -1,7 +1,6 @@
 -- Two kinds of header values that differ in their values alone: they refuse alike, and the values are those of the same parts.
 use Prim.Native.Nat.{ℕ}
 use mathlib.Core.Path.{_≡_, refl}
-use mathlib.Core.Logic.{_↔_}
 use mathlib.Core.List.{List}
 use lib.Dec.{T}
 use Rattle.grammar.specs.Grammar.{Part, Parses}

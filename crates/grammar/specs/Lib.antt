@@ -8,3 +8,4 @@ pub mod Checks
 pub mod Slices
 pub mod Comparing
 pub mod Scans
+pub mod Text

@@ -16,7 +16,7 @@ use Rattle.qvalue.specs.Grammar as QvalueGrammar
 use Rattle.url.specs.Meaning.{pages, same-page}
 use Rattle.framing.specs.Answer.{whole, refused}
 use Rattle.framing.specs.Reading.{decode}
-use Rattle.marked.specs.Text.{bytes}
+use Rattle.grammar.specs.Text.{bytes}
 
 pub data Case : Type 0 where
   version-is : (text : String) (major minor : ℕ) → Case

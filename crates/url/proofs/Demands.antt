@@ -4,17 +4,21 @@ use native.Mathlib.Omega.{arith}
 use mathlib.Core.Path.{_≡_, refl, sym, ap, _∙_}
 use mathlib.Core.Logic.{_↔_}
 use mathlib.Core.Bool.{true}
-use mathlib.Core.List.{List}
+use mathlib.Core.List.{List, _∷_, _++_}
+use Rattle.grammar.specs.Grammar.{Part, Parses}
 use Rattle.grammar.specs.Comparing.{compare, outcome, refused-at}
 use Rattle.grammar.specs.Reading.{Verdict, value, refused, Answers}
 use Rattle.grammar.specs.Judge.{header}
 use Rattle.grammar.proofs.Demands.{answered-exactly}
 use Rattle.url.specs.declared.Url.{Url}
-use Rattle.url.specs.Grammar.{rules}
-use Rattle.url.specs.Meaning.{Page, pages, same-page}
+use Rattle.url.specs.Bytes.{PATH, QUERY}
+use Rattle.url.specs.Grammar.{Name, text-of, rules}
+use Rattle.url.specs.Meaning.{escaped-byte, unneeded?, resolved, Page, pages, same-page}
 use Rattle.url.specs.Places.{page-in, Placed}
 use Rattle.url.proofs.Meaning.{one-way, means}
 use Rattle.url.proofs.Pages.{one-page}
+use Rattle.url.proofs.Escapes.{escape-behind}
+use Rattle.url.proofs.Scan.{path-no-percent, query-no-percent}
 
 -- What `Url::read` answers (its promise is `header rules s`): where the parts of a well-formed URL stand, or the refusal of the row that
 -- applies first, and nothing else.
@@ -25,7 +29,7 @@ reading = answered-exactly rules tt tt one-way
 pub meaning : (s : List ℕ) (v : Verdict Page) → (header pages s ≡ v) ↔ Answers pages s v
 meaning = answered-exactly pages tt tt one-way
 
--- "The answer gives start and length": the parts lie within the text, and what they mean is found at those places.
+-- The parts that reading gives lie within the text, and what the URL means is found at their places.
 pub places : (s : List ℕ) (u : Url) → header rules s ≡ value u → Placed s u × (header pages s ≡ value (page-in s u))
 places = means
 
@@ -58,3 +62,13 @@ first-refused a b n p e = rw e
 pub second-refused : (a b : List ℕ) (q : Page) (n p : ℕ) → header pages a ≡ value q → header pages b ≡ refused n p
     → compare same-page (header pages a) (header pages b) ≡ refused-at 2 n p
 second-refused a b q n p e f = rw (e, f)
+
+-- "an escape of a letter, a digit or one of - _ . ! ~ * ' ( ) equals that character": behind any beginning p of a path, and of a query,
+-- that breaks off inside no escape
+pub escape-in-path : (i : ℕ) (p : List ℕ) (ps : List (Part Name)) → Parses (text-of PATH) i p ps → (x y : ℕ) (t : List ℕ) → unneeded? x y ≡ true
+    → resolved (p ++ 37 ∷ x ∷ y ∷ t) ≡ resolved (p ++ escaped-byte x y ∷ t)
+escape-in-path = escape-behind PATH path-no-percent
+
+pub escape-in-query : (i : ℕ) (p : List ℕ) (ps : List (Part Name)) → Parses (text-of QUERY) i p ps → (x y : ℕ) (t : List ℕ) → unneeded? x y ≡ true
+    → resolved (p ++ 37 ∷ x ∷ y ∷ t) ≡ resolved (p ++ escaped-byte x y ∷ t)
+escape-in-query = escape-behind QUERY query-no-percent

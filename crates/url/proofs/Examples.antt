@@ -1,12 +1,12 @@
 -- Cases of document 01 and of RFC 2616 3.2.3, computed.
 use Prim.Native.Nat.{ℕ}
-use Prim.Native.Char.{Char, code}
-use Prim.Native.String.{String, [] as ε, _∷_ as _◁_}
+use Prim.Native.String.{String}
 use mathlib.Core.Path.{_≡_, refl}
 use mathlib.Core.Bool.{Bool, true, false}
 use mathlib.Core.List.{List, [], _∷_}
 use Rattle.grammar.specs.Grammar.{lower}
 use Rattle.grammar.specs.Comparing.{Comparison, outcome, refused-at, compare}
+use Rattle.grammar.specs.Text.{bytes}
 use Rattle.grammar.specs.Reading.{Verdict, value, refused}
 use Rattle.grammar.specs.Judge.{header}
 use Rattle.octets.specs.Bytes.{digit?, letter?, hex?}
@@ -15,10 +15,6 @@ use Rattle.url.specs.declared.Place.the-variants.{Absent, At}
 use Rattle.url.specs.Bytes.{host?, unreserved?, path?, query?}
 use Rattle.url.specs.Grammar.{rules}
 use Rattle.url.specs.Meaning.{pages, same-page}
-
-abbrev bytes : String → List ℕ
-bytes ε = []
-bytes (c ◁ s) = code c ∷ bytes s
 
 abbrev compared : String → String → Comparison Bool
 compared a b = compare same-page (header pages (bytes a)) (header pages (bytes b))

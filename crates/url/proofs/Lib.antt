@@ -2,6 +2,7 @@ pub mod Tables
 pub mod Text
 pub mod Scan
 pub mod Resolved
+pub mod Escapes
 pub mod Meaning
 pub mod Pages
 pub mod Demands

@@ -9,13 +9,13 @@ use mathlib.Core.Option.{Option, none, some}
 use lib.Dec.{T, eqb}
 use lib.ListN.{length, drop, take, length-append}
 use lib.Seq.{take-at, drop-at}
-use Rattle.grammar.specs.Grammar.{Part, Parses, past, lower}
-use Rattle.grammar.specs.Reading.{Verdict, value, refused}
+use Rattle.grammar.specs.Grammar.{Part, past, lower}
+use Rattle.grammar.specs.Reading.{value, refused}
 use Rattle.grammar.specs.Judge.{header}
 use Rattle.grammar.specs.Slices.{Slice, Slices}
 use Rattle.grammar.proofs.Longest.{past-length}
 use Rattle.grammar.proofs.Slices.{slices}
-use Rattle.grammar.proofs.Values.{Alike, answered-alike}
+use Rattle.grammar.proofs.Values.{answered-alike}
 use Rattle.grammar.proofs.Deterministic.{deterministic?}
 use Rattle.octets.specs.Bytes.{digit?, letter?, hex?}
 use Rattle.octets.specs.Case.{alike}
@@ -23,7 +23,7 @@ use Rattle.url.specs.declared.Url.{Url}
 use Rattle.url.specs.Bytes.{host?, unreserved?, path?, query?}
 use Rattle.url.specs.Grammar as G
 use Rattle.url.specs.Grammar.{Name, url, is-host, is-path, is-query, named, span, host-span, place, rules}
-use Rattle.url.specs.Meaning.{Page, lower-all, resolved, host-text, path-text, query-text, page, pages, same-text, same-query, same-page}
+use Rattle.url.specs.Meaning.{lower-all, resolved, host-text, path-text, query-text, page, pages, same-text, same-query, same-page}
 use Rattle.url.specs.Places.{piece, Inside, Within, path-in, query-in, page-in, Placed}
 
 -- no URL can be read in two ways

@@ -1,21 +1,22 @@
 -- Texts with the escapes that are not needed as their characters, a byte at a time.
-use Prim.Native.Nat.{ℕ, zero, suc, _+_, _-_, _*_, _≤_, _<_}
+use Prim.Native.Nat.{ℕ, suc, _+_, _-_, _≤_, _<_}
 use native.Mathlib.Omega.{arith}
 use native.Mathlib.Numerals.{add-one}
 use borrow.Author.Tests.{ne-eqb, eq-eqb, leb-true, leb-false}
-use mathlib.Core.Path.{_≡_, refl, sym, ap, subst, _∙_}
+use mathlib.Core.Path.{_≡_, refl, sym, ap, _∙_}
 use mathlib.Core.Bool.{Bool, true, false, cond, _&&_, true≢false}
 use mathlib.Core.List.{List, [], _∷_}
 use lib.Dec.{eqb, leb}
 use lib.ListN.{length, getD, drop, drop-of-length-le, length-drop}
 use lib.Seq.{drop-cons}
-use Rattle.octets.specs.Bytes.{hex?, hex-value}
+use Rattle.octets.specs.Bytes.{digit?, letter?, hex?, hex-value}
 use Rattle.octets.proofs.Spans.{span}
+use Rattle.url.specs.Bytes.{unreserved?}
 use Rattle.url.specs.Meaning.{escaped-byte, unneeded?, resolved, same-text}
 use Rattle.url.specs.Places.{Resolves}
 
 -- a byte that begins no escape, and one that is not needed
-plain-first : (a : ℕ) (t : List ℕ) → (a ≡ 37 → ⊥) → resolved (a ∷ t) ≡ a ∷ resolved t
+pub plain-first : (a : ℕ) (t : List ℕ) → (a ≡ 37 → ⊥) → resolved (a ∷ t) ≡ a ∷ resolved t
 plain-first a [] h = refl
 plain-first a (x ∷ []) h = refl
 plain-first a (x ∷ y ∷ t) h = rw (ne-eqb a 37 h)
@@ -132,3 +133,20 @@ module _ (a b : List ℕ) (i j : ℕ) where
 
   pub first-longer : i < length a → length b ≤ j → same-text (resolved (drop i a)) (resolved (drop j b)) ≡ false
   first-longer h k = rw (drop-of-length-le b k, drop-cons a i 0 h) (not-empty (getD a i 0) (drop (suc i) a) .1)
+
+percent-reserved : unreserved? 37 ≡ false
+unfolding unreserved? letter? digit?
+percent-reserved = refl
+
+-- an escape that is not needed, and its character
+pub escape-is : (x y : ℕ) (t : List ℕ) → unneeded? x y ≡ true → resolved (37 ∷ x ∷ y ∷ t) ≡ resolved (escaped-byte x y ∷ t)
+escape-is x y t h = unneeded-first 37 x y t refl h ∙ sym (plain-first (escaped-byte x y) t (not-percent h))
+  where
+    last-of : (a b c : Bool) → (a && (b && c)) ≡ true → c ≡ true
+    last-of true true c e = e
+    last-of true false c e = absurd (true≢false (sym e))
+    last-of false b c e = absurd (true≢false (sym e))
+
+    not-percent : unneeded? x y ≡ true → escaped-byte x y ≡ 37 → ⊥
+    not-percent e f =
+        true≢false (sym (last-of (hex? x) (hex? y) (unreserved? (escaped-byte x y)) e) ∙ ap unreserved? f ∙ percent-reserved)

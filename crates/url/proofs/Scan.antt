@@ -1,16 +1,16 @@
 -- The reader's scans against the grammar: the scheme, the host, the port, the path, the query, the end.
-use Prim.Native.Nat.{ℕ, zero, suc, _+_, _-_, _≤_, _<_}
+use Prim.Native.Nat.{ℕ, _+_, _-_, _≤_, _<_}
 use native.Mathlib.Omega.{arith}
-use borrow.Author.Tests.{ne-eqb, eq-eqb, ltb-true, ltb-false}
+use borrow.Author.Tests.{ne-eqb, ltb-false}
 use mathlib.Core.Path.{_≡_, refl, sym, ap, subst, _∙_}
 use mathlib.Core.Bool.{Bool, true, false, cond, _||_, _&&_, true≢false}
 use mathlib.Core.List.{List, [], _∷_, _++_, append-assoc, append-nil}
 use mathlib.Core.Option.{Option, none, some}
 use lib.Dec.{ltb, eqb}
 use lib.ListN.{length, getD, drop, take, length-take, length-drop}
-use Rattle.grammar.specs.Grammar.{Part, Grammar, void, empty, byte, _⨾_, star, part, rest, plus, just, lower}
-use Rattle.grammar.specs.Derivative.{deriv, then}
-use Rattle.grammar.specs.Reading.{above, Verdict, value, refused}
+use Rattle.grammar.specs.Grammar.{Part, Grammar, void, empty, byte, _⨾_, star, part, rest, plus}
+use Rattle.grammar.specs.Derivative.{deriv}
+use Rattle.grammar.specs.Reading.{above, value, refused}
 use Rattle.grammar.specs.Checks.{ahead}
 use Rattle.grammar.specs.Judge.{header}
 use Rattle.grammar.specs.Scans.{slice, from}
@@ -29,7 +29,7 @@ use Rattle.url.specs.declared.Ending.the-variants.{Ends, Breaks}
 use Rattle.url.specs.Bytes.{HOST, PATH, QUERY, host?, unreserved?, path?, query?}
 use Rattle.url.specs.Grammar as G
 use Rattle.url.specs.Grammar.{Name, host, port, path, query, text-of, query-part, path-part, port-part, host-part, scheme, is-port, is-path, is-query, named, port-text, place, largest-port, rules}
-use Rattle.url.specs.Scan.{Found, host-start, host-at, AfterHost, heads, port-read, BeforePath, path-at, BeforeQuery}
+use Rattle.url.specs.Scan.{Found, host-at, AfterHost, heads, port-read, BeforePath, path-at, BeforeQuery}
 use Rattle.url.proofs.Text.{stretch-up, text-ends, text-breaks}
 
 -- ## Bytes apart
@@ -52,11 +52,11 @@ path-apart j b d = rw (apart path? b 63 d refl)
 percent-apart : (j b : ℕ) → b ≡ 37 → deriv query-part j b ≡ void
 percent-apart j b e = rw e
 
-path-no-percent : path? 37 ≡ false
+pub path-no-percent : path? 37 ≡ false
 unfolding path? unreserved? letter? digit?
 path-no-percent = refl
 
-query-no-percent : query? 37 ≡ false
+pub query-no-percent : query? 37 ≡ false
 unfolding query? path? unreserved? letter? digit?
 query-no-percent = refl
 

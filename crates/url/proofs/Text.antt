@@ -1,15 +1,15 @@
 -- A text of a class and of escapes, as a part that has begun, against its grammar.
 use Prim.Native.Nat.{ℕ, zero, suc, _+_, _-_, _≤_, _<_}
 use native.Mathlib.Omega.{arith}
-use borrow.Author.Tests.{eq-eqb, ne-eqb, ltb-true, ltb-false}
+use borrow.Author.Tests.{ne-eqb, ltb-true, ltb-false}
 use mathlib.Core.Path.{_≡_, refl, sym, ap, subst, _∙_}
 use mathlib.Core.Bool.{Bool, true, false, cond, true≢false}
 use mathlib.Core.List.{List, [], _∷_, _++_}
 use mathlib.Core.Option.{none}
 use lib.Dec.{ltb, eqb}
 use lib.ListN.{length, getD}
-use Rattle.grammar.specs.Grammar.{Class, Part, Grammar, void, empty, byte, _⨾_, _∣_, star, part, rest, just, grown}
-use Rattle.grammar.specs.Derivative.{live, nullable, deriv, ends, then, seq, during}
+use Rattle.grammar.specs.Grammar.{Class, Part, Grammar, void, empty, byte, _⨾_, star, part, rest, grown}
+use Rattle.grammar.specs.Derivative.{live, deriv, ends, then, seq, during}
 use Rattle.grammar.specs.Reading.{Rules, Verdict, refused}
 use Rattle.grammar.specs.Judge.{held}
 use Rattle.grammar.specs.Checks.{ahead}
@@ -17,7 +17,6 @@ use Rattle.grammar.specs.Scans.{slice, from}
 use Rattle.grammar.proofs.Scans.{slice-snoc, part-goes-on, part-ends, part-fails, part-cut-off}
 use Rattle.octets.specs.Bytes.{hex?}
 use Rattle.octets.specs.Classes.{HEX}
-use Rattle.url.specs.declared.Ending.{Ending}
 use Rattle.url.specs.declared.Ending.the-variants.{Ends, Breaks}
 use Rattle.url.specs.Grammar.{Name, text-of}
 use Rattle.url.specs.Scan.{Hexes, Stretch, empty as nothing, plain, escape as escaped, Found}

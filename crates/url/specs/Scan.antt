@@ -1,10 +1,9 @@
 -- For the contracts of the reader's helpers.
 use Prim.Native.Nat.{ℕ, _+_, _≤_, _<_}
 use mathlib.Core.Path.{_≡_}
-use mathlib.Core.Bool.{Bool, true, false, cond}
+use mathlib.Core.Bool.{Bool, true, false}
 use mathlib.Core.List.{List, [], _∷_, _++_}
 use mathlib.Core.Option.{Option, none, some}
-use lib.Dec.{eqb, ltb}
 use lib.ListN.{length, getD}
 use Rattle.grammar.specs.Grammar.{Part, _⨾_}
 use Rattle.grammar.specs.Checks.{ahead}

@@ -122,7 +122,7 @@ impl Url {
     }
 }
 
-// Why a reading was refused; of one that was not, nothing.
+// Why a reading was refused; of one that was read, number 0, which is no refusal's.
 fn refusal(r: Reading) -> Refusal
     ensures { λ x. ⌜ x ≡ refusal-of r ⌝ }
 {

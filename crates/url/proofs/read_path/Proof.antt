@@ -1,9 +1,8 @@
 -- `url::read_path` meets its contract: each way out is what the grammar leaves there.
-use Prim.Native.Nat.{ℕ, _+_, _≤_, _<_}
+use Prim.Native.Nat.{_+_}
 use native.Mathlib.Omega.{arith}
 use borrow.Author.Needs.{needs}
-use mathlib.Core.Path.{_≡_, refl, sym, ap, subst, _∙_}
-use Rattle.grammar.specs.Reading.{value}
+use mathlib.Core.Path.{sym, ap, subst, _∙_}
 use Rattle.url.specs.Bytes.{path?}
 use Rattle.url.specs.Reading.{verdict}
 use Rattle.url.specs.Scan.{Found}

@@ -1,7 +1,7 @@
 -- `url::read_port` meets its contract: each way out is what the grammar leaves there.
 use native.Mathlib.Omega.{arith}
 use borrow.Author.Needs.{needs}
-use mathlib.Core.Path.{_≡_, refl, sym, ap, _∙_}
+use mathlib.Core.Path.{sym, ap, _∙_}
 use Rattle.octets.proofs.Scans.{is-missing}
 use Rattle.url.specs.Reading.{verdict}
 use Rattle.url.proofs.Scan.{port-absent, port-passes, port-small, port-reads, port-empty}

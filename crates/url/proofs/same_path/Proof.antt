@@ -1,6 +1,6 @@
 -- `url::same_path` meets its contract: by the cases of both paths.
 use borrow.Author.Needs.{needs}
-use mathlib.Core.Path.{_≡_, refl, sym, ap, ap₂, subst, _∙_}
+use mathlib.Core.Path.{sym, ap, ap₂, subst, _∙_}
 use mathlib.Core.List.{[], _∷_}
 use Rattle.url.specs.Meaning.{resolved, same-text}
 use Rattle.url.specs.Places.{Within, path-in}

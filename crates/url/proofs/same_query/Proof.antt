@@ -1,6 +1,6 @@
 -- `url::same_query` meets its contract: by the cases of both queries.
 use borrow.Author.Needs.{needs}
-use mathlib.Core.Path.{_≡_, refl, sym, ap, ap₂, subst, _∙_}
+use mathlib.Core.Path.{sym, ap, ap₂, subst, _∙_}
 use Rattle.url.specs.Meaning.{resolved, same-text, same-query}
 use Rattle.url.specs.Places.{Within, query-in}
 use Rattle.url.proofs.same_query.Statement.{statement}

@@ -1,10 +1,9 @@
 -- `url::same_text` meets its contract: what is left of both is the same just where the whole is.
-use Prim.Native.Nat.{ℕ, _+_, _-_, _≤_, _<_}
+use Prim.Native.Nat.{_-_, _≤_}
 use native.Mathlib.Omega.{arith}
 use borrow.Author.Needs.{needs}
 use borrow.Author.Tests.{ne-eqb, eq-eqb}
 use mathlib.Core.Path.{_≡_, refl, sym, ap, ap₂, _∙_}
-use mathlib.Core.Bool.{Bool, true, false}
 use lib.ListN.{length, drop}
 use Rattle.url.specs.Meaning.{resolved, same-text}
 use Rattle.url.proofs.Resolved.{both-ended, first-longer}

@@ -1,7 +1,7 @@
 -- `url::same_url` meets its contract: host, port, path, query in turn.
 use borrow.Author.Needs.{needs}
 use borrow.Author.Tests.{not-true, not-false}
-use mathlib.Core.Path.{_≡_, sym, _∙_}
+use mathlib.Core.Path.{sym, _∙_}
 use Rattle.url.proofs.Meaning.{host-compared, by-host, by-port, by-path, by-query}
 use Rattle.url.proofs.same_url.Statement.{statement}
 use Rattle.url.proofs.same_url.Tie as tie

@@ -1,12 +1,12 @@
 -- `url::text_end` meets its contract: what was passed is a stretch.
-use Prim.Native.Nat.{ℕ, _+_, _-_, _≤_, _<_}
+use Prim.Native.Nat.{ℕ, _+_, _-_, _≤_}
 use native.Mathlib.Omega.{arith}
 use borrow.Author.Needs.{needs}
 use mathlib.Core.Path.{_≡_, refl, sym, ap, subst, _∙_}
-use mathlib.Core.Bool.{Bool, true, false}
+use mathlib.Core.Bool.{Bool}
 use lib.ListN.{length, getD}
 use Rattle.octets.specs.Runs.{Bits}
-use Rattle.url.specs.Scan.{Hexes, Stretch, empty, plain, escape, Found}
+use Rattle.url.specs.Scan.{Hexes, Stretch, empty, plain, escape}
 use Rattle.url.proofs.text_end.Statement.{statement}
 use Rattle.url.proofs.text_end.Tie as tie
 

@@ -1,15 +1,14 @@
 -- `url::unit_at` meets its contract: the byte is kept, or an escape that is not needed is taken out.
-use Prim.Native.Nat.{ℕ, _+_, _-_, _*_, _≤_, _<_}
+use Prim.Native.Nat.{ℕ, _+_, _-_, _*_}
 use native.Mathlib.Omega.{arith}
 use borrow.Author.Needs.{needs}
 use borrow.Author.Tests.{not-true, not-false}
-use mathlib.Core.Path.{_≡_, refl, sym, ap, subst, _∙_}
-use mathlib.Core.Bool.{Bool, true, false, _&&_}
-use lib.ListN.{length, getD}
+use mathlib.Core.Path.{_≡_, sym, ap, _∙_}
+use mathlib.Core.Bool.{Bool, true, false}
+use lib.ListN.{getD}
 use Rattle.octets.specs.Bytes.{hex?, hex-value}
 use Rattle.url.specs.Bytes.{unreserved?}
 use Rattle.url.specs.Meaning.{escaped-byte, unneeded?}
-use Rattle.url.specs.Places.{Resolves}
 use Rattle.url.proofs.Tables.{unreserved-bits}
 use Rattle.url.proofs.Resolved.{kept-plain, kept-short, kept-needed, taken-out, no-digit, digit-value}
 use Rattle.url.proofs.unit_at.Statement.{statement}

@@ -1,11 +1,10 @@
 -- `url::Url::compare_bytes` meets its contract: by the two readings, and what each URL means.
 use Prim.Native.Nat.{ℕ}
 use borrow.Author.Needs.{needs}
-use mathlib.Core.Path.{_≡_, refl, sym, ap, ap₂, _∙_}
-use mathlib.Core.Bool.{Bool, true, false}
+use mathlib.Core.Path.{_≡_, sym, ap, ap₂, _∙_}
 use mathlib.Core.List.{List}
-use Rattle.grammar.specs.Comparing.{compare, outcome, refused-at}
-use Rattle.grammar.specs.Reading.{value, refused}
+use Rattle.grammar.specs.Comparing.{compare, outcome}
+use Rattle.grammar.specs.Reading.{refused}
 use Rattle.grammar.specs.Judge.{header}
 use Rattle.octets.specs.declared.Refusal.{Refusal}
 use Rattle.url.specs.declared.Url.{Url}
@@ -13,7 +12,6 @@ use Rattle.url.specs.declared.Reading.{Reading}
 use Rattle.url.specs.declared.Reading.the-variants.{Read, Refused}
 use Rattle.url.specs.Grammar.{rules}
 use Rattle.url.specs.Meaning.{same-page, pages}
-use Rattle.url.specs.Places.{page-in}
 use Rattle.url.specs.Reading.{verdict, refusal-of}
 use Rattle.url.proofs.Meaning.{means, means-nothing}
 use Rattle.url.proofs.Url.compare_bytes.Statement.{statement}

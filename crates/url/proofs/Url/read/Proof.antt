@@ -1,7 +1,7 @@
 -- `url::Url::read` meets its contract: each way out is what the grammar leaves there.
 use native.Mathlib.Omega.{arith}
 use borrow.Author.Needs.{needs}
-use mathlib.Core.Path.{_≡_, refl, sym, ap, _∙_}
+use mathlib.Core.Path.{sym, ap, _∙_}
 use Rattle.grammar.specs.Reading.{refused}
 use Rattle.grammar.proofs.Loop.{header-long}
 use Rattle.octets.proofs.Words.{word-whole, word-inside}
