@@ -1,0 +1,17 @@
+-- `host::qz_etag_weak_match` meets its contract.
+use borrow.Author.Needs.{needs}
+use mathlib.Core.Path.{ap, _∙_}
+use Rattle.host.specs.Fields.{same-fields}
+use Rattle.host.proofs.qz_etag_weak_match.Statement.{statement}
+use Rattle.host.proofs.qz_etag_weak_match.Tie as tie
+
+returns : tie.Need-returns
+returns c = c .matching-of .ensures ∙ ap same-fields (c .before .weak-match .ensures)
+
+pub qz-etag-weak-match-spec : {M : Type 1} → statement M
+qz-etag-weak-match-spec =
+    tie.close
+    (tie.spec
+    (λ c κs. search needs)
+    (λ c κs. search needs)
+    returns)

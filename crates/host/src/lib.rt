@@ -1,0 +1,396 @@
+// What C and Rust link: each function takes a proved answer apart into a struct. Nothing is decided here.
+ghost use mathlib.Core.Path.{_≡_};
+ghost use lib.ListN.{length};
+ghost use Rattle.grammar.specs.Judge.{header};
+ghost use Rattle.grammar.specs.Comparing.{compare as comparing};
+ghost use Rattle.version.specs.Grammar.{rules as versions};
+ghost use Rattle.version.specs.Reading.{precedence};
+ghost use Rattle.version.specs.Writing.{version-writing, written-output};
+ghost use Rattle.delta.specs.Grammar.{rules as deltas};
+ghost use Rattle.qvalue.specs.Grammar.{rules as qvalues};
+ghost use Rattle.qvalue.specs.Writing.{written-qvalue, qvalue-output};
+ghost use Rattle.language.specs.Grammar.{rules as languages};
+ghost use Rattle.language.specs.Reading.{equality, comparison as language-comparison};
+ghost use Rattle.etag.specs.Grammar.{rules as etags};
+ghost use Rattle.etag.specs.Reading.{strong-matching, weak-matching, comparison as etag-comparison};
+ghost use Rattle.framing.specs.Reading.{decode as decoding, after as decoded-output};
+ghost use Rattle.chunk_writer.specs.Writing.{answered as encoding, after as encoded-output};
+ghost use Rattle.octets.specs.Writing.{written};
+ghost use Rattle.chunked.specs.Verdict.{verdict};
+ghost use Rattle.host.specs.Fields.{version-fields, order-number, order-fields, seconds-fields, thousandths-fields, written-fields, body-fields};
+ghost use Rattle.host.specs.Fields.{language-fields, etag-fields, same-fields};
+use chunked::Answer;
+use etag::Matching;
+use language::Equality;
+use octets::Written;
+use version::Compared;
+use version::Order;
+use version::Version;
+
+// In each struct `number` is 0 where there is an answer, otherwise the refusal's number; a field that has no meaning then is 0.
+
+#[repr(C)]
+pub struct QzVersion {
+    pub number: u8,
+    pub place: usize,
+    pub major: u32,
+    pub minor: u32,
+}
+
+// `which` is 1 or 2 where the first or the second input was refused; `order` is 0, 1, 2 for less, equal, greater.
+#[repr(C)]
+pub struct QzOrder {
+    pub number: u8,
+    pub place: usize,
+    pub which: u8,
+    pub order: u8,
+}
+
+// A number that was read: seconds, or thousandths.
+#[repr(C)]
+pub struct QzNumber {
+    pub number: u8,
+    pub place: usize,
+    pub value: u32,
+}
+
+// How many parts a language tag has, and how many letters the first of them has.
+#[repr(C)]
+pub struct QzLanguage {
+    pub number: u8,
+    pub place: usize,
+    pub parts: usize,
+    pub primary: usize,
+}
+
+// Whether an entity tag is weak, and the start and length of what stands between its quotes.
+#[repr(C)]
+pub struct QzTag {
+    pub number: u8,
+    pub place: usize,
+    pub weak: bool,
+    pub start: usize,
+    pub length: usize,
+}
+
+// `which` is 1 or 2 where the first or the second input was refused; `same` says that the two are equal, or match.
+#[repr(C)]
+pub struct QzSame {
+    pub number: u8,
+    pub place: usize,
+    pub which: u8,
+    pub same: bool,
+}
+
+// How many bytes a writer wrote.
+#[repr(C)]
+pub struct QzWritten {
+    pub number: u8,
+    pub place: usize,
+    pub length: usize,
+}
+
+// `state` is 0, 1, 2 for whole, more, refused.
+#[repr(C)]
+pub struct QzBody {
+    pub state: u8,
+    pub number: u8,
+    pub place: usize,
+    pub taken: usize,
+    pub length: usize,
+}
+
+#[no_mangle]
+pub extern "C" fn qz_version_read(s: &[u8]) -> QzVersion
+    ensures { λ r. ⌜ r ≡ version-fields (header versions (now (s .entry))) ⌝ }
+{
+    match Version::read(s) {
+        version::Reading::Read(v) => QzVersion {
+            number: 0,
+            place: 0,
+            major: v.major,
+            minor: v.minor,
+        },
+        version::Reading::Refused(r) => QzVersion {
+            number: r.number,
+            place: r.place,
+            major: 0,
+            minor: 0,
+        },
+    }
+}
+
+#[no_mangle]
+pub extern "C" fn qz_version_compare(a: &[u8], b: &[u8]) -> QzOrder
+    ensures { λ r. ⌜ r ≡ order-fields (comparing precedence (header versions (now (a .entry))) (header versions (now (b .entry)))) ⌝ }
+{
+    match Version::compare_bytes(a, b) {
+        Compared::Ordered(o) => QzOrder {
+            number: 0,
+            place: 0,
+            which: 0,
+            order: order_code(o),
+        },
+        Compared::FirstRefused(r) => QzOrder {
+            number: r.number,
+            place: r.place,
+            which: 1,
+            order: 0,
+        },
+        Compared::SecondRefused(r) => QzOrder {
+            number: r.number,
+            place: r.place,
+            which: 2,
+            order: 0,
+        },
+    }
+}
+
+#[no_mangle]
+pub extern "C" fn qz_version_write(major: u32, minor: u32, out: &mut [u8]) -> QzWritten
+    ensures answers { λ r. ⌜ r ≡ written-fields (version-writing (record { major = major; minor = minor }) (length (now (out .entry)))) ⌝ }
+    ensures writes { λ _. ⌜ now (out .exit) ≡ written-output (record { major = major; minor = minor }) (now (out .entry)) ⌝ }
+{
+    let v = Version { major, minor };
+    written_fields(v.write(out))
+}
+
+#[no_mangle]
+pub extern "C" fn qz_delta_read(s: &[u8]) -> QzNumber
+    ensures { λ r. ⌜ r ≡ seconds-fields (header deltas (now (s .entry))) ⌝ }
+{
+    match delta::read(s) {
+        delta::Reading::Read(v) => QzNumber {
+            number: 0,
+            place: 0,
+            value: v.value,
+        },
+        delta::Reading::Refused(r) => QzNumber {
+            number: r.number,
+            place: r.place,
+            value: 0,
+        },
+    }
+}
+
+#[no_mangle]
+pub extern "C" fn qz_qvalue_read(s: &[u8]) -> QzNumber
+    ensures { λ r. ⌜ r ≡ thousandths-fields (header qvalues (now (s .entry))) ⌝ }
+{
+    match qvalue::read(s) {
+        qvalue::Reading::Read(v) => QzNumber {
+            number: 0,
+            place: 0,
+            value: v as u32,
+        },
+        qvalue::Reading::Refused(r) => QzNumber {
+            number: r.number,
+            place: r.place,
+            value: 0,
+        },
+    }
+}
+
+#[no_mangle]
+pub extern "C" fn qz_qvalue_write(thousandths: u16, out: &mut [u8]) -> QzWritten
+    ensures answers { λ r. ⌜ r ≡ written-fields (written-qvalue thousandths (length (now (out .entry)))) ⌝ }
+    ensures writes { λ _. ⌜ now (out .exit) ≡ qvalue-output thousandths (now (out .entry)) ⌝ }
+{
+    written_fields(qvalue::write(thousandths, out))
+}
+
+#[no_mangle]
+pub extern "C" fn qz_language_read(s: &[u8]) -> QzLanguage
+    ensures { λ r. ⌜ r ≡ language-fields (header languages (now (s .entry))) ⌝ }
+{
+    match language::read(s) {
+        language::Reading::Read(v) => QzLanguage {
+            number: 0,
+            place: 0,
+            parts: v.parts,
+            primary: v.primary_len,
+        },
+        language::Reading::Refused(r) => QzLanguage {
+            number: r.number,
+            place: r.place,
+            parts: 0,
+            primary: 0,
+        },
+    }
+}
+
+#[no_mangle]
+pub extern "C" fn qz_language_equal(a: &[u8], b: &[u8]) -> QzSame
+    ensures { λ r. ⌜ r ≡ same-fields (equality (now (a .entry)) (now (b .entry))) ⌝ }
+{
+    equality_of(language::equal(a, b))
+}
+
+#[no_mangle]
+pub extern "C" fn qz_etag_read(s: &[u8]) -> QzTag
+    ensures { λ r. ⌜ r ≡ etag-fields (header etags (now (s .entry))) ⌝ }
+{
+    match etag::read(s) {
+        etag::Reading::Read(v) => QzTag {
+            number: 0,
+            place: 0,
+            weak: v.weak,
+            start: v.start,
+            length: v.len,
+        },
+        etag::Reading::Refused(r) => QzTag {
+            number: r.number,
+            place: r.place,
+            weak: false,
+            start: 0,
+            length: 0,
+        },
+    }
+}
+
+#[no_mangle]
+pub extern "C" fn qz_etag_strong_match(a: &[u8], b: &[u8]) -> QzSame
+    ensures { λ r. ⌜ r ≡ same-fields (strong-matching (now (a .entry)) (now (b .entry))) ⌝ }
+{
+    matching_of(etag::strong_match(a, b))
+}
+
+#[no_mangle]
+pub extern "C" fn qz_etag_weak_match(a: &[u8], b: &[u8]) -> QzSame
+    ensures { λ r. ⌜ r ≡ same-fields (weak-matching (now (a .entry)) (now (b .entry))) ⌝ }
+{
+    matching_of(etag::weak_match(a, b))
+}
+
+#[no_mangle]
+pub extern "C" fn qz_chunked_decode(input: &[u8], out: &mut [u8]) -> QzBody
+    ensures answers { λ r. ⌜ r ≡ body-fields (decoding (length (now (out .entry))) (now (input .entry))) ⌝ }
+    ensures writes { λ _. ⌜ now (out .exit) ≡ decoded-output (now (input .entry)) (now (out .entry)) ⌝ }
+{
+    body_of(chunked::decode(input, out))
+}
+
+#[no_mangle]
+pub extern "C" fn qz_chunked_encode(body: &[u8], chunk_len: usize, out: &mut [u8]) -> QzWritten
+    ensures answers { λ r. ⌜ r ≡ written-fields (encoding (now (body .entry)) «chunk_len» (length (now (out .entry)))) ⌝ }
+    ensures writes { λ _. ⌜ now (out .exit) ≡ encoded-output (now (body .entry)) «chunk_len» (now (out .entry)) ⌝ }
+{
+    written_fields(chunk_writer::encode(body, chunk_len, out))
+}
+
+fn order_code(o: Order) -> u8
+    ensures { λ r. ⌜ r ≡ order-number o ⌝ }
+{
+    match o {
+        Order::Less => 0,
+        Order::Equal => 1,
+        Order::Greater => 2,
+    }
+}
+
+fn written_fields(w: Written) -> QzWritten
+    ensures { λ r. ⌜ r ≡ written-fields (written w) ⌝ }
+{
+    match w {
+        Written::Length(n) => QzWritten {
+            number: 0,
+            place: 0,
+            length: n,
+        },
+        Written::Refused(r) => QzWritten {
+            number: r.number,
+            place: r.place,
+            length: 0,
+        },
+    }
+}
+
+fn body_of(a: Answer) -> QzBody
+    ensures { λ r. ⌜ r ≡ body-fields (verdict a) ⌝ }
+{
+    match a {
+        Answer::Whole { taken, len } => QzBody {
+            state: 0,
+            number: 0,
+            place: 0,
+            taken,
+            length: len,
+        },
+        Answer::More => QzBody {
+            state: 1,
+            number: 0,
+            place: 0,
+            taken: 0,
+            length: 0,
+        },
+        Answer::Refused(r) => QzBody {
+            state: 2,
+            number: r.number,
+            place: r.place,
+            taken: 0,
+            length: 0,
+        },
+    }
+}
+
+fn equality_of(e: Equality) -> QzSame
+    ensures { λ r. ⌜ r ≡ same-fields (language-comparison e) ⌝ }
+{
+    match e {
+        Equality::Equal => QzSame {
+            number: 0,
+            place: 0,
+            which: 0,
+            same: true,
+        },
+        Equality::Different => QzSame {
+            number: 0,
+            place: 0,
+            which: 0,
+            same: false,
+        },
+        Equality::FirstRefused(r) => QzSame {
+            number: r.number,
+            place: r.place,
+            which: 1,
+            same: false,
+        },
+        Equality::SecondRefused(r) => QzSame {
+            number: r.number,
+            place: r.place,
+            which: 2,
+            same: false,
+        },
+    }
+}
+
+fn matching_of(m: Matching) -> QzSame
+    ensures { λ r. ⌜ r ≡ same-fields (etag-comparison m) ⌝ }
+{
+    match m {
+        Matching::Matches => QzSame {
+            number: 0,
+            place: 0,
+            which: 0,
+            same: true,
+        },
+        Matching::Differs => QzSame {
+            number: 0,
+            place: 0,
+            which: 0,
+            same: false,
+        },
+        Matching::FirstRefused(r) => QzSame {
+            number: r.number,
+            place: r.place,
+            which: 1,
+            same: false,
+        },
+        Matching::SecondRefused(r) => QzSame {
+            number: r.number,
+            place: r.place,
+            which: 2,
+            same: false,
+        },
+    }
+}

@@ -1,0 +1,185 @@
+//! A chunked decoder in one pass, for speed: the baseline of the benchmarks.
+//!
+//! It copies each chunk as it goes, so a body that turns out not to be whole leaves bytes in the output.
+//! Its answers are those of `chunked::decode`.
+
+use crate::chunked::{LINE_LIMIT, TRAILER_LIMIT};
+use crate::number::{BODY_TOO_LARGE, LINE_TOO_LONG, MALFORMED, TRAILER_TOO_LONG};
+use crate::rules::{is_text, is_token_byte};
+use crate::Refusal;
+
+#[derive(Clone, Copy, Debug, PartialEq, Eq, Hash)]
+pub enum Answer {
+    Whole { taken: usize, length: usize },
+    More,
+    Refused(Refusal),
+}
+
+/// Why reading stopped before the body was whole.
+enum Stop {
+    More,
+    Refused(Refusal),
+}
+
+type Step<T> = Result<T, Stop>;
+
+/// Reads bytes that count toward one limit: a chunk line or the trailer.
+struct Reader<'a> {
+    input: &'a [u8],
+    at: usize,
+    /// Where the counted bytes begin.
+    start: usize,
+    limit: usize,
+    refusal: u8,
+}
+
+fn malformed<T>(place: usize) -> Step<T> {
+    Err(Stop::Refused(Refusal::new(MALFORMED, place)))
+}
+
+impl Reader<'_> {
+    #[inline]
+    fn peek(&self) -> Step<u8> {
+        self.input.get(self.at).copied().ok_or(Stop::More)
+    }
+
+    /// Takes a byte that fits the grammar here.
+    #[inline]
+    fn take(&mut self) -> Step<()> {
+        if self.at - self.start >= self.limit {
+            return Err(Stop::Refused(Refusal::new(self.refusal, self.at)));
+        }
+        self.at += 1;
+        Ok(())
+    }
+
+    fn expect(&mut self, byte: u8) -> Step<()> {
+        if self.peek()? != byte {
+            return malformed(self.at);
+        }
+        self.take()
+    }
+
+    fn run(&mut self, class: fn(u8) -> bool) -> Step<usize> {
+        let start = self.at;
+        while class(self.peek()?) {
+            self.take()?;
+        }
+        Ok(self.at - start)
+    }
+
+    fn token(&mut self) -> Step<()> {
+        match self.run(is_token_byte)? {
+            0 => malformed(self.at),
+            _ => Ok(()),
+        }
+    }
+
+    fn quoted_rest(&mut self) -> Step<()> {
+        loop {
+            let byte = self.peek()?;
+            if !is_text(byte) {
+                return malformed(self.at);
+            }
+            self.take()?;
+            match byte {
+                b'"' => return Ok(()),
+                b'\\' if is_text(self.peek()?) && self.peek()? < 128 => self.take()?,
+                b'\\' => return malformed(self.at),
+                _ => {}
+            }
+        }
+    }
+
+    fn extension_value(&mut self) -> Step<()> {
+        if self.peek()? != b'"' {
+            return self.token();
+        }
+        self.take()?;
+        self.quoted_rest()
+    }
+
+    fn extensions(&mut self) -> Step<()> {
+        while self.peek()? == b';' {
+            self.take()?;
+            self.token()?;
+            if self.peek()? == b'=' {
+                self.take()?;
+                self.extension_value()?;
+            }
+        }
+        Ok(())
+    }
+
+    fn size(&mut self, room_left: usize) -> Step<usize> {
+        let start = self.at;
+        let mut value: usize = 0;
+        while let Some(digit) = char::from(self.peek()?).to_digit(16) {
+            self.take()?;
+            value = value.saturating_mul(16).saturating_add(digit as usize);
+            if value > room_left {
+                return Err(Stop::Refused(Refusal::new(BODY_TOO_LARGE, self.at - 1)));
+            }
+        }
+        if self.at == start {
+            return malformed(self.at);
+        }
+        Ok(value)
+    }
+}
+
+/// The place after a CRLF that stands at `at`.
+#[inline]
+fn line_break(input: &[u8], at: usize) -> Step<usize> {
+    for (place, want) in [(at, b'\r'), (at + 1, b'\n')] {
+        match input.get(place) {
+            None => return Err(Stop::More),
+            Some(byte) if *byte != want => return malformed(place),
+            _ => {}
+        }
+    }
+    Ok(at + 2)
+}
+
+fn chunk_line(input: &[u8], at: usize, room_left: usize) -> Step<(usize, usize)> {
+    let mut line = Reader { input, at, start: at, limit: LINE_LIMIT, refusal: LINE_TOO_LONG };
+    let size = line.size(room_left)?;
+    line.extensions()?;
+    Ok((size, line_break(input, line.at)?))
+}
+
+fn trailer(input: &[u8], at: usize) -> Step<usize> {
+    let mut lines = Reader { input, at, start: at, limit: TRAILER_LIMIT, refusal: TRAILER_TOO_LONG };
+    while lines.peek()? != b'\r' {
+        lines.token()?;
+        lines.expect(b':')?;
+        lines.run(is_text)?;
+        lines.expect(b'\r')?;
+        lines.expect(b'\n')?;
+    }
+    line_break(input, lines.at)
+}
+
+fn decode_steps(input: &[u8], out: &mut [u8]) -> Step<(usize, usize)> {
+    let (mut at, mut length) = (0, 0);
+    loop {
+        let (size, data) = chunk_line(input, at, out.len() - length)?;
+        if size == 0 {
+            return Ok((trailer(input, data)?, length));
+        }
+        let Some(chunk) = input.get(data..data.saturating_add(size)) else {
+            return Err(Stop::More);
+        };
+        out[length..length + size].copy_from_slice(chunk);
+        length += size;
+        at = line_break(input, data + size)?;
+    }
+}
+
+pub fn plain_decode(input: &[u8], out: &mut [u8]) -> Answer {
+    match decode_steps(input, out) {
+        Ok((taken, length)) => Answer::Whole { taken, length },
+        Err(Stop::More) => Answer::More,
+        Err(Stop::Refused(refusal)) => Answer::Refused(refusal),
+    }
+}

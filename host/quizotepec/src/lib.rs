@@ -1,0 +1,180 @@
+//! HTTP/1.1 protocol parameters and chunked bodies: safe functions over the proved library.
+//!
+//! A reader takes a header value whole; the caller trims outer blanks. A writer writes at the front of the lent
+//! output, keeps the rest and gives the length. A refusal writes nothing.
+
+pub mod raw;
+
+use std::cmp::Ordering;
+
+/// Why bytes or arguments were refused: a number of the table of refusals, and the place counted from 0.
+#[derive(Clone, Copy, Debug, PartialEq, Eq, Hash)]
+pub struct Refusal {
+    pub number: u8,
+    pub place: usize,
+}
+
+/// Which of two compared byte strings was refused.
+#[derive(Clone, Copy, Debug, PartialEq, Eq, Hash)]
+pub enum Which {
+    First,
+    Second,
+}
+
+/// A comparison's refusal. The first input is read first.
+#[derive(Clone, Copy, Debug, PartialEq, Eq, Hash)]
+pub struct Refused {
+    pub which: Which,
+    pub refusal: Refusal,
+}
+
+/// An HTTP version, ordered by major, then minor, as numbers.
+#[derive(Clone, Copy, Debug, PartialEq, Eq, PartialOrd, Ord, Hash)]
+pub struct Version {
+    pub major: u32,
+    pub minor: u32,
+}
+
+/// A language tag.
+#[derive(Clone, Copy, Debug, PartialEq, Eq, Hash)]
+pub struct LanguageTag {
+    pub parts: usize,
+    /// How many letters the first part has.
+    pub primary: usize,
+}
+
+/// An entity tag: the quoted bytes, without the quotes, are the `length` bytes from `start`.
+#[derive(Clone, Copy, Debug, PartialEq, Eq, Hash)]
+pub struct EntityTag {
+    pub weak: bool,
+    pub start: usize,
+    pub length: usize,
+}
+
+/// The answer of the chunked reader.
+#[derive(Clone, Copy, Debug, PartialEq, Eq, Hash)]
+pub enum Decoded {
+    /// The first `taken` bytes are a body; its `length` bytes of data are at the front of the output.
+    Whole { taken: usize, length: usize },
+    /// The input is the beginning of a body. Nothing was written.
+    More,
+    /// No continuation makes the input a body within the limits. Nothing was written.
+    Refused(Refusal),
+}
+
+/// `answer`, or the refusal where the number is not 0.
+fn unless_refused<T>(number: u8, place: usize, answer: T) -> Result<T, Refusal> {
+    match number {
+        0 => Ok(answer),
+        _ => Err(Refusal { number, place }),
+    }
+}
+
+fn written(w: raw::QzWritten) -> Result<usize, Refusal> {
+    unless_refused(w.number, w.place, w.length)
+}
+
+/// `answer`, or which input was refused where the number is not 0.
+fn unless_one_refused<T>(number: u8, place: usize, which: u8, answer: T) -> Result<T, Refused> {
+    let which = if which == 1 { Which::First } else { Which::Second };
+    unless_refused(number, place, answer).map_err(|refusal| Refused { which, refusal })
+}
+
+fn same(s: raw::QzSame) -> Result<bool, Refused> {
+    unless_one_refused(s.number, s.place, s.which, s.same)
+}
+
+/// Reads `HTTP/` digits `.` digits.
+pub fn version_read(value: &[u8]) -> Result<Version, Refusal> {
+    // SAFETY: the pointer is valid for reads of the length, as a slice's is.
+    let v = unsafe { raw::qz_version_read(value.as_ptr(), value.len()) };
+    unless_refused(v.number, v.place, Version { major: v.major, minor: v.minor })
+}
+
+/// Reads first one version, then the other, and gives their order.
+pub fn version_compare(first: &[u8], second: &[u8]) -> Result<Ordering, Refused> {
+    // SAFETY: both pointers are valid for reads of their lengths.
+    let o = unsafe { raw::qz_version_compare(first.as_ptr(), first.len(), second.as_ptr(), second.len()) };
+    let order = match o.order {
+        0 => Ordering::Less,
+        1 => Ordering::Equal,
+        _ => Ordering::Greater,
+    };
+    unless_one_refused(o.number, o.place, o.which, order)
+}
+
+/// Writes a version in capitals without leading zeros and gives its length.
+pub fn version_write(version: Version, out: &mut [u8]) -> Result<usize, Refusal> {
+    // SAFETY: the output is borrowed alone and valid for writes of its length.
+    written(unsafe { raw::qz_version_write(version.major, version.minor, out.as_mut_ptr(), out.len()) })
+}
+
+/// Reads delta-seconds.
+pub fn delta_read(value: &[u8]) -> Result<u32, Refusal> {
+    // SAFETY: the pointer is valid for reads of the length.
+    let n = unsafe { raw::qz_delta_read(value.as_ptr(), value.len()) };
+    unless_refused(n.number, n.place, n.value)
+}
+
+/// Reads a qvalue in thousandths, 0 to 1000.
+pub fn qvalue_read(value: &[u8]) -> Result<u32, Refusal> {
+    // SAFETY: the pointer is valid for reads of the length.
+    let n = unsafe { raw::qz_qvalue_read(value.as_ptr(), value.len()) };
+    unless_refused(n.number, n.place, n.value)
+}
+
+/// Writes the shortest form of a qvalue given in thousandths and gives its length.
+pub fn qvalue_write(thousandths: u16, out: &mut [u8]) -> Result<usize, Refusal> {
+    // SAFETY: the output is borrowed alone and valid for writes of its length.
+    written(unsafe { raw::qz_qvalue_write(thousandths, out.as_mut_ptr(), out.len()) })
+}
+
+/// Reads a language tag: parts of 1 to 8 letters joined by `-`.
+pub fn language_read(value: &[u8]) -> Result<LanguageTag, Refusal> {
+    // SAFETY: the pointer is valid for reads of the length.
+    let t = unsafe { raw::qz_language_read(value.as_ptr(), value.len()) };
+    unless_refused(t.number, t.place, LanguageTag { parts: t.parts, primary: t.primary })
+}
+
+/// Reads first one language tag, then the other, and says whether they are equal, ignoring case.
+pub fn language_equal(first: &[u8], second: &[u8]) -> Result<bool, Refused> {
+    // SAFETY: both pointers are valid for reads of their lengths.
+    same(unsafe { raw::qz_language_equal(first.as_ptr(), first.len(), second.as_ptr(), second.len()) })
+}
+
+/// Reads an entity tag: optional `W/` in either case, then a quoted string.
+pub fn etag_read(value: &[u8]) -> Result<EntityTag, Refusal> {
+    // SAFETY: the pointer is valid for reads of the length.
+    let t = unsafe { raw::qz_etag_read(value.as_ptr(), value.len()) };
+    unless_refused(t.number, t.place, EntityTag { weak: t.weak, start: t.start, length: t.length })
+}
+
+/// Reads first one entity tag, then the other; they match where neither is weak and the quoted bytes are the same.
+pub fn etag_strong_match(first: &[u8], second: &[u8]) -> Result<bool, Refused> {
+    // SAFETY: both pointers are valid for reads of their lengths.
+    same(unsafe { raw::qz_etag_strong_match(first.as_ptr(), first.len(), second.as_ptr(), second.len()) })
+}
+
+/// Reads first one entity tag, then the other; they match where the quoted bytes are the same.
+pub fn etag_weak_match(first: &[u8], second: &[u8]) -> Result<bool, Refused> {
+    // SAFETY: both pointers are valid for reads of their lengths.
+    same(unsafe { raw::qz_etag_weak_match(first.as_ptr(), first.len(), second.as_ptr(), second.len()) })
+}
+
+/// Reads a chunked body at the front of the input; the room is the output's length.
+pub fn chunked_decode(input: &[u8], out: &mut [u8]) -> Decoded {
+    // SAFETY: the output is borrowed alone, so the input does not overlap it; both are valid for their lengths.
+    let b = unsafe { raw::qz_chunked_decode(input.as_ptr(), input.len(), out.as_mut_ptr(), out.len()) };
+    match b.state {
+        0 => Decoded::Whole { taken: b.taken, length: b.length },
+        1 => Decoded::More,
+        _ => Decoded::Refused(Refusal { number: b.number, place: b.place }),
+    }
+}
+
+/// Writes a body in chunks of `chunk_len` bytes and what remains, and gives the length of the frame.
+pub fn chunked_encode(body: &[u8], chunk_len: usize, out: &mut [u8]) -> Result<usize, Refusal> {
+    let (from, to) = (body.as_ptr(), out.as_mut_ptr());
+    // SAFETY: the output is borrowed alone, so the body does not overlap it; both are valid for their lengths.
+    written(unsafe { raw::qz_chunked_encode(from, body.len(), chunk_len, to, out.len()) })
+}

@@ -1,0 +1,102 @@
+//! Writers against the independent implementation: the answer, every lent byte and those around.
+
+mod common;
+
+use common::{lend, writes, RANDOM};
+use independent::generate::{frame, numbers, Rng};
+use independent::number::{ARGUMENT_OUT_OF_RANGE, BODY_TOO_LARGE, OUTPUT_TOO_SHORT};
+use independent::{chunked, qvalue, version};
+use quizotepec::{chunked_encode, qvalue_write, version_write, Refusal, Version};
+
+/// The longest version has 16 bytes, the longest qvalue 5.
+const VERSION_ROOM: usize = 20;
+const QVALUE_ROOM: usize = 8;
+/// How many bytes a body has at most in the test of every chunk length.
+const SHORT_BODY: usize = 24;
+
+fn version_agrees(major: u32, minor: u32, room: usize) {
+    let expected = version::write(major.into(), minor.into(), room);
+    writes(expected, room, |out| version_write(Version { major, minor }, out), (major, minor));
+}
+
+fn frame_agrees(body: &[u8], chunk_len: usize, room: usize) {
+    let expected = chunked::encode(body, chunk_len, room);
+    writes(expected, room, |out| chunked_encode(body, chunk_len, out), (body, chunk_len));
+}
+
+#[test]
+fn versions() {
+    let near =
+        [0, 1, 9, 10, 99, 100, 999, 1_000, 9_999, 10_000, 65_534, 65_535, 65_536, 65_537, 131_072, u32::MAX];
+    for major in near {
+        for minor in near {
+            (0..=VERSION_ROOM).for_each(|room| version_agrees(major, minor, room));
+        }
+    }
+    (0..=65_600).for_each(|number| version_agrees(number, 65_600 - number, VERSION_ROOM));
+}
+
+#[test]
+fn random_versions() {
+    let mut rng = Rng::new(21);
+    for _ in 0..RANDOM {
+        let (major, minor) = numbers(&mut rng);
+        version_agrees(major as u32, minor as u32, rng.below(VERSION_ROOM));
+    }
+}
+
+#[test]
+fn every_qvalue() {
+    for thousandths in 0..=u16::MAX {
+        for room in 0..=QVALUE_ROOM {
+            let expected = qvalue::write(thousandths.into(), room);
+            writes(expected, room, |out| qvalue_write(thousandths, out), thousandths);
+        }
+    }
+}
+
+#[test]
+fn short_bodies_in_every_room() {
+    let bytes: Vec<u8> = (0..SHORT_BODY as u8).map(|at| at.wrapping_mul(53)).collect();
+    for length in 0..=SHORT_BODY {
+        let body = &bytes[..length];
+        for chunk_len in (0..=length + 2).chain([usize::MAX - 1, usize::MAX]) {
+            let needed = chunked::encode(body, chunk_len, usize::MAX).map_or(0, |frame| frame.len());
+            (0..=needed + 2).for_each(|room| frame_agrees(body, chunk_len, room));
+        }
+    }
+}
+
+#[test]
+fn longer_bodies() {
+    let body = vec![0x5A; 70_000];
+    for length in [255, 256, 257, 4_095, 4_096, 4_097, 65_535, 65_536, 65_537, 70_000] {
+        for chunk_len in [1, 15, 16, 17, 255, 256, 4_096, 65_536, length - 1, length, length + 1] {
+            let needed =
+                chunked::encode(&body[..length], chunk_len, usize::MAX).map_or(0, |frame| frame.len());
+            [needed - 1, needed, needed + 1]
+                .into_iter()
+                .for_each(|room| frame_agrees(&body[..length], chunk_len, room));
+        }
+    }
+}
+
+/// The pages of this body are never touched: each answer is a refusal.
+#[test]
+fn the_largest_body() {
+    let body = vec![0; chunked::BODY_LIMIT + 1];
+    let encode = |body: &[u8], chunk_len| lend(1, |out| chunked_encode(body, chunk_len, out), |_| Vec::new());
+    let refused = |number| Err(Refusal { number, place: 0 });
+    assert_eq!(encode(&body, 0), refused(ARGUMENT_OUT_OF_RANGE));
+    assert_eq!(encode(&body, 1 << 20), refused(BODY_TOO_LARGE));
+    assert_eq!(encode(&body[1..], 1 << 20), refused(OUTPUT_TOO_SHORT));
+}
+
+#[test]
+fn random_frames() {
+    let mut rng = Rng::new(22);
+    for _ in 0..RANDOM {
+        let (body, chunk_len, room) = frame(&mut rng);
+        frame_agrees(&body, chunk_len, room);
+    }
+}
