@@ -20,3 +20,4 @@ pub mod Plain
 pub mod Alike
 pub mod Regroup
 pub mod Values
+pub mod Words

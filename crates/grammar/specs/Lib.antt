@@ -9,3 +9,4 @@ pub mod Slices
 pub mod Comparing
 pub mod Scans
 pub mod Text
+pub mod Words

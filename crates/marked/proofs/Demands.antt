@@ -2,6 +2,9 @@
 use mathlib.Core.Path.{refl}
 use Rattle.grammar.specs.Grammar.{lower}
 use Rattle.octets.specs.Bytes.{digit?, letter?, hex?, token?}
+use Rattle.calendar.specs.Gregorian.{leap?, days-of-years, date?, time?}
+use Rattle.calendar.specs.Instants.{seconds-of}
+use Rattle.date.specs.Grammar.{full-year, fault-of}
 use Rattle.url.specs.Bytes.{host?, unreserved?, path?, query?}
 use Rattle.framing.specs.Machine.{lineStep, lineLive, lineEnds, leaveLine, enterChunk, step, live, done, pastRoom, over}
 use Rattle.framing.specs.Scan.{answer}
@@ -9,5 +12,5 @@ use Rattle.framing.specs.Reading.{judge, decode}
 use Rattle.marked.specs.Cases.{All, table}
 
 pub marked : All table
-unfolding lower digit? letter? hex? token? host? unreserved? path? query? lineStep lineLive lineEnds leaveLine enterChunk step live done pastRoom over answer judge decode
-marked = (refl, (refl, (refl, (refl, (refl, (refl, (refl, (refl, tt))))))))
+unfolding lower digit? letter? hex? token? leap? days-of-years date? time? seconds-of full-year fault-of host? unreserved? path? query? lineStep lineLive lineEnds leaveLine enterChunk step live done pastRoom over answer judge decode
+marked = (refl, (refl, (refl, (refl, (refl, (refl, (refl, (refl, (refl, (refl, (refl, (refl, tt))))))))))))

@@ -10,3 +10,4 @@ pub mod SameBytes
 pub mod Writing
 pub mod Alike
 pub mod Words
+pub mod Lines

@@ -6,3 +6,4 @@ pub mod Classes
 pub mod Writing
 pub mod Quoted
 pub mod Same
+pub mod Shapes

@@ -1,0 +1,5 @@
+pub mod Counting
+pub mod Dates
+pub mod Signed
+pub mod Instants
+pub mod Demands

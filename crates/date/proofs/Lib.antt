@@ -1,0 +1,6 @@
+pub mod Demands
+pub mod Tables
+pub mod Judged
+pub mod Scan
+pub mod Writer
+pub mod Back

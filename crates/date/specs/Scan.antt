@@ -1,0 +1,104 @@
+-- For the contracts of the reader's helpers.
+use Prim.Native.Nat.{ℕ, zero, suc, _+_, _/_, _≤_, _<_}
+use mathlib.Core.Path.{_≡_}
+use mathlib.Core.Bool.{Bool, cond}
+use mathlib.Core.List.{List, [], _∷_, _++_}
+use mathlib.Core.Option.{Option, none, some}
+use lib.Dec.{T, leb, ltb}
+use lib.ListN.{length, drop}
+use Rattle.grammar.specs.Grammar.{Part, Grammar, lit, bytes?}
+use Rattle.grammar.specs.Reading.{Verdict, refused}
+use Rattle.grammar.specs.Judge.{header, unless-fault}
+use Rattle.grammar.specs.Checks.{ahead}
+use Rattle.grammar.specs.Scans.{slice, from}
+use Rattle.octets.specs.Numbers.{number}
+use Rattle.calendar.specs.declared.Fields.{Fields}
+use Rattle.date.specs.declared.Date.{Date}
+use Rattle.date.specs.declared.Places.{Places}
+use Rattle.date.specs.declared.Tail.{Tail}
+use Rattle.date.specs.declared.Tail.the-variants.{Month, Stops}
+use Rattle.date.specs.Grammar.{Name, weekday, fixed, dashed, plain, forms, full-year, fault-of, value-of, rules}
+use Rattle.date.specs.Names.{month-names, first-name}
+use Rattle.octets.specs.Shapes.{fitting}
+use Rattle.date.specs.Shapes.{longest}
+
+-- the place that was found, or d
+abbrev pub index : ℕ → Option ℕ → ℕ
+index d none = d
+index d (some k) = k
+
+-- the place among the names of the one that the text begins with, or the number of names
+unfoldable pub name-index : (names text : List ℕ) → ℕ
+name-index names t = index (length names / 3) (first-name names t 0)
+
+-- the rest of the long name of a day
+abbrev pub rest-of : ℕ → List ℕ
+rest-of zero = 100 ∷ 97 ∷ 121 ∷ []
+rest-of (suc zero) = 115 ∷ 100 ∷ 97 ∷ 121 ∷ []
+rest-of (suc (suc zero)) = 110 ∷ 101 ∷ 115 ∷ 100 ∷ 97 ∷ 121 ∷ []
+rest-of (suc (suc (suc zero))) = 114 ∷ 115 ∷ 100 ∷ 97 ∷ 121 ∷ []
+rest-of (suc (suc (suc (suc zero)))) = 100 ∷ 97 ∷ 121 ∷ []
+rest-of (suc (suc (suc (suc (suc zero))))) = 117 ∷ 114 ∷ 100 ∷ 97 ∷ 121 ∷ []
+rest-of (suc (suc (suc (suc (suc (suc k)))))) = 100 ∷ 97 ∷ 121 ∷ []
+
+abbrev pub rest-bytes : (k : ℕ) → T (bytes? (rest-of k))
+rest-bytes zero = tt
+rest-bytes (suc zero) = tt
+rest-bytes (suc (suc zero)) = tt
+rest-bytes (suc (suc (suc zero))) = tt
+rest-bytes (suc (suc (suc (suc zero)))) = tt
+rest-bytes (suc (suc (suc (suc (suc zero))))) = tt
+rest-bytes (suc (suc (suc (suc (suc (suc k)))))) = tt
+
+-- the shape of what stands between the short name of a day and the month, in the form of RFC 850
+abbrev pub dashed-head : ℕ → List ℕ
+dashed-head k = rest-of k ++ (44 ∷ 32 ∷ 48 ∷ 48 ∷ 45 ∷ [])
+
+abbrev pub day-part : ℕ → Part Name
+day-part k = record { label = weekday k; start = 3; text = [] }
+
+-- the day k is named, and the answer is what g finds from the place 3 on
+pub record Goes (g : Grammar Name) (s : List ℕ) (k : ℕ) : Type 0 where
+  pub below : k < 7
+  pub short : length s ≤ 8192
+  pub reads : header rules s ≡ from rules s (ahead (day-part k ∷ []) g) 3
+
+abbrev pub AfterDay : List ℕ → ℕ → Type 0
+AfterDay s k = Goes (forms (rest-of k) (rest-bytes k)) s k
+
+abbrev pub AtDashed : List ℕ → ℕ → Type 0
+AtDashed s k = Goes (lit (rest-of k) (rest-bytes k) dashed) s k
+
+-- a month at the place `at`, a text of that shape behind it, and the end
+unfoldable pub month-then : (shape s : List ℕ) (at : ℕ) → Tail
+month-then w s at =
+    let k = name-index month-names (drop at s) in
+    let n = fitting w (drop (at + 3) s) in
+    cond (leb 12 k) (Stops (at + longest month-names (drop at s)))
+    (cond (ltb n (length w)) (Stops (at + 3 + n)) (cond (ltb (at + 3 + n) (length s)) (Stops (at + 3 + n)) (Month (k + 1))))
+
+-- the answer to a well-formed date
+unfoldable pub judged : (named : ℕ) → Fields → Verdict Date
+judged k f = unless-fault (fault-of k f) (value-of f)
+
+-- a year of two digits or of four
+abbrev pub year-from : (s : List ℕ) (at : ℕ) (short : Bool) → ℕ
+year-from s at short = cond short (full-year (number (slice s at (at + 2)))) (number (slice s at (at + 4)))
+
+-- the fields by their places: two digits each, but for a year that is not short; minute and second stand behind the hour
+abbrev pub fields-from : (s : List ℕ) (month : ℕ) → Places → Fields
+fields-from s m p = record {
+  year = year-from s (p .year) (p .short);
+  month = m;
+  day = number (slice s (p .day) (p .day + 2));
+  hour = number (slice s (p .time) (p .time + 2));
+  minute = number (slice s (p .time + 3) (p .time + 3 + 2));
+  second = number (slice s (p .time + 6) (p .time + 6 + 2));
+}
+
+-- the day k is named, and the answer is what a month and a text of the shape w behind it make
+pub record Ending (s : List ℕ) (k : ℕ) (w : List ℕ) (p : Places) : Type 0 where
+  pub room : p .month + length w < 8192
+  pub stops : (q : ℕ) → month-then w s (p .month) ≡ Stops q → header rules s ≡ refused 1 q
+  pub ends : (m : ℕ) → month-then w s (p .month) ≡ Month m → header rules s ≡ judged k (fields-from s m p)
+  pub inside : (m : ℕ) → month-then w s (p .month) ≡ Month m → (p .year + 4 ≤ length s) × (p .day + 2 ≤ length s) × (p .time + 8 ≤ length s)

@@ -1,0 +1,44 @@
+-- "The writer gives the 29 bytes of the RFC 1123 form, and refusal 9 outside that range."
+use Prim.Native.Nat.{ℕ, _+_, _-_, _*_, _/_, _%_}
+use mathlib.Core.Bool.{cond}
+use mathlib.Core.List.{List, [], _∷_}
+use lib.Dec.{ltb}
+use lib.IntN.{ℤ}
+use lib.ListN.{length, getD}
+use Rattle.grammar.specs.Reading.{Verdict, value, refused}
+use Rattle.octets.specs.Writing.{output}
+use Rattle.calendar.specs.declared.Fields.{Fields}
+use Rattle.calendar.specs.Instants.{in-range?, fields-at, weekday-at}
+use Rattle.date.specs.Names.{month-names, day-names}
+
+-- the last two digits of a number
+abbrev pub tens : ℕ → ℕ
+tens n = 48 + n / 10 % 10
+
+abbrev pub ones : ℕ → ℕ
+ones n = 48 + n % 10
+
+-- a byte of a table of names
+abbrev pub letter : (names : List ℕ) (place : ℕ) → ℕ
+letter names i = getD names i 0
+
+-- "Sun, 06 Nov 1994 08:49:37 GMT"
+unfoldable pub date-text : (weekday : ℕ) → Fields → List ℕ
+date-text k f =
+    letter day-names (3 * k) ∷ letter day-names (3 * k + 1) ∷ letter day-names (3 * k + 2) ∷ 44 ∷ 32
+    ∷ tens (f .day) ∷ ones (f .day) ∷ 32
+    ∷ letter month-names (3 * (f .month - 1)) ∷ letter month-names (3 * (f .month - 1) + 1) ∷ letter month-names (3 * (f .month - 1) + 2) ∷ 32
+    ∷ tens (f .year / 100) ∷ ones (f .year / 100) ∷ tens (f .year) ∷ ones (f .year) ∷ 32
+    ∷ tens (f .hour) ∷ ones (f .hour) ∷ 58 ∷ tens (f .minute) ∷ ones (f .minute) ∷ 58 ∷ tens (f .second) ∷ ones (f .second)
+    ∷ 32 ∷ 71 ∷ 77 ∷ 84 ∷ []
+
+abbrev pub instant-text : ℤ → List ℕ
+instant-text s = date-text (weekday-at s) (fields-at s)
+
+-- the answer in a room: 9, then 8 for an output shorter than 29 bytes, each at place 0
+unfoldable pub writing : ℤ → ℕ → Verdict ℕ
+writing s room = cond (in-range? s) (cond (ltb room 29) (refused 8 0) (value 29)) (refused 9 0)
+
+-- the lent output afterwards
+abbrev pub written-output : ℤ → List ℕ → List ℕ
+written-output s old = output (writing s (length old)) (instant-text s) old

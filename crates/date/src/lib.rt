@@ -1,0 +1,421 @@
+// HTTP dates: RFC 2616 3.3.1.
+ghost use mathlib.Core.Path.{_≡_};
+ghost use Prim.Native.Nat.{_+_, _-_, _/_, _%_, _≤_, _<_};
+ghost use lib.ListN.{length, drop, getD};
+ghost use Rattle.grammar.specs.Judge.{header};
+ghost use Rattle.grammar.specs.Scans.{slice};
+ghost use Rattle.octets.specs.Numbers.{number};
+ghost use Rattle.octets.specs.Writing.{written};
+ghost use Rattle.date.specs.Grammar.{fixed, plain, full-year, rules};
+ghost use Rattle.date.specs.Reading.{verdict};
+ghost use Rattle.date.specs.Scan.{Goes, AfterDay, AtDashed, dashed-head, name-index, month-then, judged, year-from, Ending};
+ghost use Rattle.date.specs.Writing.{date-text, writing, written-output, tens, ones};
+ghost use Rattle.octets.specs.Shapes.{stands-for, fitting};
+ghost use Rattle.date.specs.Shapes.{standing, longest};
+use calendar::Fields;
+use calendar::Located;
+use calendar::Told;
+use octets::Refusal;
+use octets::Written;
+
+// A date and a time of day, and the seconds since 1970-01-01 00:00:00.
+pub struct Date {
+    pub fields: Fields,
+    pub seconds: i64,
+}
+
+pub enum Reading {
+    Read(Date),
+    Refused(Refusal),
+}
+
+// A month and what follows it to the end, or the place where that stops.
+enum Tail {
+    Month(u32),
+    Stops(usize),
+}
+
+// Where the parts of a form stand: the month, the year and whether it has two digits, the day, the time.
+struct Places {
+    month: usize,
+    year: usize,
+    short: bool,
+    day: usize,
+    time: usize,
+}
+
+// The bytes of the form that is written.
+const TEXT_LEN: usize = 29;
+
+// The longest header value.
+const VALUE_LIMIT: usize = 8192;
+
+const DAYS: [u8; 21] = *b"MonTueWedThuFriSatSun";
+
+const MONTHS: [u8; 36] = *b"JanFebMarAprMayJunJulAugSepOctNovDec";
+
+// Reads a date of any of the three forms.
+pub fn read(s: &[u8]) -> Reading
+    ensures { λ r. ⌜ verdict r ≡ header rules (now (s .entry)) ⌝ }
+{
+    if s.len() > VALUE_LIMIT {
+        return refused(13, VALUE_LIMIT);
+    }
+    let day = name_at(&DAYS, s, 0);
+    if day >= 7 {
+        return refused(1, longest_at(&DAYS, s, 0));
+    }
+    read_form(s, day)
+}
+
+// Writes an instant at the front of `out`, in the form of RFC 1123, and keeps the rest of `out`.
+pub fn write(seconds: i64, out: &mut [u8]) -> Written
+    ensures answers { λ r. ⌜ written r ≡ writing seconds (length (now (out .entry))) ⌝ }
+    ensures writes { λ _. ⌜ now (out .exit) ≡ written-output seconds (now (out .entry)) ⌝ }
+{
+    match calendar::fields_at(seconds) {
+        Told::Outside => unwritten(9),
+        Told::On { fields, weekday } => {
+            if out.len() < TEXT_LEN {
+                return unwritten(8);
+            }
+            let text = text_of(weekday as usize, fields);
+            text::put_bytes(&text, out, 0);
+            Written::Length(TEXT_LEN)
+        }
+    }
+}
+
+fn unwritten(number: u8) -> Written
+    ensures { λ r. ⌜ r ≡ Written.Refused (record { number = number; place = 0 }) ⌝ }
+{
+    Written::Refused(Refusal { number, place: 0 })
+}
+
+// `Sun, 06 Nov 1994 08:49:37 GMT`
+fn text_of(weekday: usize, f: Fields) -> [u8; 29]
+    requires { ⌜ (weekday < 7) × (1 ≤ f .month) × (f .month ≤ 12) ⌝ }
+    ensures { λ r. ⌜ r ≡ date-text weekday f ⌝ }
+{
+    let d = 3 * weekday;
+    let m = 3 * (f.month as usize - 1);
+    let c = f.year / 100;
+    [
+        letter(&DAYS, d),
+        letter(&DAYS, d + 1),
+        letter(&DAYS, d + 2),
+        b',',
+        b' ',
+        tens_digit(f.day),
+        ones_digit(f.day),
+        b' ',
+        letter(&MONTHS, m),
+        letter(&MONTHS, m + 1),
+        letter(&MONTHS, m + 2),
+        b' ',
+        tens_digit(c),
+        ones_digit(c),
+        tens_digit(f.year),
+        ones_digit(f.year),
+        b' ',
+        tens_digit(f.hour),
+        ones_digit(f.hour),
+        b':',
+        tens_digit(f.minute),
+        ones_digit(f.minute),
+        b':',
+        tens_digit(f.second),
+        ones_digit(f.second),
+        b' ',
+        b'G',
+        b'M',
+        b'T',
+    ]
+}
+
+fn letter(names: &[u8], place: usize) -> u8
+    requires { ⌜ place < length (now names) ⌝ }
+    ensures { λ r. ⌜ r ≡ getD (now (names .entry)) place 0 ⌝ }
+{
+    names[place]
+}
+
+fn tens_digit(n: u32) -> u8
+    ensures { λ r. ⌜ r ≡ tens n ⌝ }
+{
+    (48 + n / 10 % 10) as u8
+}
+
+fn ones_digit(n: u32) -> u8
+    ensures { λ r. ⌜ r ≡ ones n ⌝ }
+{
+    (48 + n % 10) as u8
+}
+
+fn refused(number: u8, place: usize) -> Reading
+    ensures { λ r. ⌜ r ≡ Reading.Refused (record { number = number; place = place }) ⌝ }
+{
+    Reading::Refused(Refusal { number, place })
+}
+
+// Behind the short name of a day.
+fn read_form(s: &[u8], day: usize) -> Reading
+    requires { ⌜ AfterDay (now s) day ⌝ }
+    ensures { λ r. ⌜ verdict r ≡ header rules (now (s .entry)) ⌝ }
+{
+    if byte_is(s, 3, b',') {
+        return read_fixed(s, day);
+    }
+    if byte_is(s, 3, b' ') {
+        return read_plain(s, day);
+    }
+    match day {
+        1 => read_dashed(s, day, b"sday, 00-"),
+        2 => read_dashed(s, day, b"nesday, 00-"),
+        3 => read_dashed(s, day, b"rsday, 00-"),
+        5 => read_dashed(s, day, b"urday, 00-"),
+        _ => read_dashed(s, day, b"day, 00-"),
+    }
+}
+
+// `, 06 Nov 1994 08:49:37 GMT`
+fn read_fixed(s: &[u8], day: usize) -> Reading
+    requires { ⌜ Goes fixed (now s) day ⌝ }
+    ensures { λ r. ⌜ verdict r ≡ header rules (now (s .entry)) ⌝ }
+{
+    let n = fitting_at(b", 00 ", s, 3);
+    if n < 5 {
+        return refused(1, 3 + n);
+    }
+    let places = Places {
+        month: 8,
+        year: 12,
+        short: false,
+        day: 5,
+        time: 17,
+    };
+    read_tail(s, day, b" 0000 00:00:00 GMT", places)
+}
+
+// `day, 06-Nov-94 08:49:37 GMT`: the head is all before the month.
+fn read_dashed(s: &[u8], day: usize, head: &[u8]) -> Reading
+    requires { ⌜ AtDashed (now s) day ⌝ }
+    requires { ⌜ now head ≡ dashed-head day ⌝ }
+    ensures { λ r. ⌜ verdict r ≡ header rules (now (s .entry)) ⌝ }
+{
+    let n = fitting_at(head, s, 3);
+    if n < head.len() {
+        return refused(1, 3 + n);
+    }
+    let at = 3 + n;
+    let places = Places {
+        month: at,
+        year: at + 4,
+        short: true,
+        day: at - 3,
+        time: at + 7,
+    };
+    read_tail(s, day, b"-00 00:00:00 GMT", places)
+}
+
+// ` Nov  6 08:49:37 1994`
+fn read_plain(s: &[u8], day: usize) -> Reading
+    requires { ⌜ Goes plain (now s) day ⌝ }
+    ensures { λ r. ⌜ verdict r ≡ header rules (now (s .entry)) ⌝ }
+{
+    let n = fitting_at(b" ", s, 3);
+    if n < 1 {
+        return refused(1, 3);
+    }
+    let places = Places {
+        month: 4,
+        year: 20,
+        short: false,
+        day: 8,
+        time: 11,
+    };
+    if byte_is(s, 8, b' ') {
+        return read_tail(s, day, b"  0 00:00:00 0000", places);
+    }
+    read_tail(s, day, b" 00 00:00:00 0000", places)
+}
+
+// The month, what follows it, and the end. A blank before the day counts as 0.
+fn read_tail(s: &[u8], day: usize, tail: &[u8], places: Places) -> Reading
+    requires { ⌜ Ending (now s) day (now tail) places ⌝ }
+    ensures { λ r. ⌜ verdict r ≡ header rules (now (s .entry)) ⌝ }
+{
+    match month_then(tail, s, places.month) {
+        Tail::Stops(place) => refused(1, place),
+        Tail::Month(month) => judge(
+            day,
+            Fields {
+                year: year_at(s, places.year, places.short),
+                month,
+                day: two_digits(s, places.day),
+                hour: two_digits(s, places.time),
+                minute: two_digits(s, places.time + 3),
+                second: two_digits(s, places.time + 6),
+            },
+        ),
+    }
+}
+
+// A well-formed date: no such date or time, a day name that disagrees with it, or the date.
+fn judge(named: usize, fields: Fields) -> Reading
+    ensures { λ r. ⌜ verdict r ≡ judged named fields ⌝ }
+{
+    match calendar::locate(fields) {
+        Located::Nowhere => refused(3, 0),
+        Located::At { seconds, weekday } => {
+            if weekday as usize != named {
+                return refused(4, 0);
+            }
+            Reading::Read(Date { fields, seconds })
+        }
+    }
+}
+
+// A month at the place `at`, a text of that shape behind it, and the end.
+fn month_then(shape: &[u8], s: &[u8], at: usize) -> Tail
+    requires { ⌜ at + length (now shape) < 8192 ⌝ }
+    ensures { λ r. ⌜ r ≡ month-then (now (shape .entry)) (now (s .entry)) at ⌝ }
+{
+    let index = name_at(&MONTHS, s, at);
+    if index >= 12 {
+        return Tail::Stops(at + longest_at(&MONTHS, s, at));
+    }
+    let n = fitting_at(shape, s, at + 3);
+    let end = at + 3 + n;
+    if n < shape.len() {
+        return Tail::Stops(end);
+    }
+    if end < s.len() {
+        return Tail::Stops(end);
+    }
+    Tail::Month(index as u32 + 1)
+}
+
+// The first name in a table of names of three bytes that agrees with the bytes at `at`, or the number of names.
+fn name_at(names: &[u8], s: &[u8], at: usize) -> usize
+    ensures { λ r. ⌜ r ≡ name-index (now (names .entry)) (drop at (now (s .entry))) ⌝ }
+{
+    let count = names.len() / 3;
+    if at > s.len() {
+        return count;
+    }
+    if s.len() - at < 3 {
+        return count;
+    }
+    let mut k = 0;
+    let found = 'names: loop {
+        if k >= count {
+            break 'names count;
+        }
+        let mut j = 0;
+        while j < 3 {
+            if s[at + j] != names[3 * k + j] {
+                k += 1;
+                continue 'names;
+            }
+            j += 1;
+        }
+        break 'names k;
+    };
+    found
+}
+
+// The most bytes at `at` that are of a name in the table.
+fn longest_at(names: &[u8], s: &[u8], at: usize) -> usize
+    ensures { λ r. ⌜ r ≡ longest (now (names .entry)) (drop at (now (s .entry))) ⌝ }
+{
+    let mut best = 0;
+    let mut k = 0;
+    while 3 <= names.len() - k {
+        let e = k + 3;
+        let n = fitting_at(&names[k..e], s, at);
+        if best < n {
+            best = n;
+        }
+        k = e;
+    }
+    best
+}
+
+// How many bytes at `at` are of the shape.
+fn fitting_at(shape: &[u8], s: &[u8], at: usize) -> usize
+    ensures { λ r. ⌜ r ≡ fitting (now (shape .entry)) (drop at (now (s .entry))) ⌝ }
+{
+    let mut i = 0;
+    let mut j = at;
+    while i < shape.len() {
+        if s.len() <= j {
+            return i;
+        }
+        if !stands_for(shape[i], s[j]) {
+            return i;
+        }
+        i += 1;
+        j += 1;
+    }
+    i
+}
+
+// A 0 of a shape stands for any digit, every other byte for itself.
+fn stands_for(a: u8, b: u8) -> bool
+    ensures { λ r. ⌜ r ≡ stands-for a b ⌝ }
+{
+    if a == b'0' {
+        octets::is_digit(b)
+    } else {
+        b == a
+    }
+}
+
+fn byte_is(s: &[u8], at: usize, b: u8) -> bool
+    ensures { λ r. ⌜ r ≡ standing (now (s .entry)) at b ⌝ }
+{
+    if at < s.len() { s[at] == b } else { false }
+}
+
+// The number that two bytes make, which are digits or a blank and a digit.
+fn two_digits(s: &[u8], at: usize) -> u32
+    requires { ⌜ at + 2 ≤ length (now s) ⌝ }
+    ensures is { λ r. ⌜ r ≡ number (slice (now (s .entry)) at (at + 2)) ⌝ }
+    ensures small { λ r. ⌜ r < 3000 ⌝ }
+{
+    digit_value(s[at]) * 10 + digit_value(s[at + 1])
+}
+
+fn four_digits(s: &[u8], at: usize) -> u32
+    requires { ⌜ at + 4 ≤ length (now s) ⌝ }
+    ensures { λ r. ⌜ r ≡ number (slice (now (s .entry)) at (at + 4)) ⌝ }
+{
+    two_digits(s, at) * 100 + two_digits(s, at + 2)
+}
+
+fn year_at(s: &[u8], at: usize, short: bool) -> u32
+    requires { ⌜ at + 4 ≤ length (now s) ⌝ }
+    ensures { λ r. ⌜ r ≡ year-from (now (s .entry)) at short ⌝ }
+{
+    if short {
+        full_year(two_digits(s, at))
+    } else {
+        four_digits(s, at)
+    }
+}
+
+fn digit_value(b: u8) -> u32
+    ensures is { λ r. ⌜ r ≡ b - 48 ⌝ }
+    ensures small { λ r. ⌜ r < 256 ⌝ }
+{
+    if b < 48 { 0 } else { (b - 48) as u32 }
+}
+
+// A two-digit year from 70 to 99 means 1970 to 1999, and 00 to 69 means 2000 to 2069.
+fn full_year(n: u32) -> u32
+    requires { ⌜ n < 3000 ⌝ }
+    ensures { λ r. ⌜ r ≡ full-year n ⌝ }
+{
+    if n < 70 { 2000 + n } else { 1900 + n }
+}
