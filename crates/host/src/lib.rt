@@ -17,8 +17,9 @@ ghost use Rattle.framing.specs.Reading.{decode as decoding, after as decoded-ou
 ghost use Rattle.chunk_writer.specs.Writing.{answered as encoding, after as encoded-output};
 ghost use Rattle.octets.specs.Writing.{written};
 ghost use Rattle.chunked.specs.Verdict.{verdict};
-ghost use Rattle.host.specs.Fields.{version-fields, order-number, order-fields, seconds-fields, thousandths-fields, written-fields, body-fields};
-ghost use Rattle.host.specs.Fields.{language-fields, etag-fields, same-fields};
+ghost use Rattle.host.specs.Fields.{version-fields, order-number, order-fields, seconds-fields};
+ghost use Rattle.host.specs.Fields.{thousandths-fields, language-fields, etag-fields, same-fields};
+ghost use Rattle.host.specs.Fields.{written-fields, body-fields};
 use chunked::Answer;
 use etag::Matching;
 use language::Equality;
