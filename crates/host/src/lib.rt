@@ -2,7 +2,7 @@
 ghost use mathlib.Core.Path.{_≡_};
 ghost use lib.ListN.{length};
 ghost use Rattle.grammar.specs.Judge.{header};
-ghost use Rattle.grammar.specs.Comparing.{compare as comparing};
+ghost use Rattle.grammar.specs.Comparing.{compare as comparing, outcome, refused-at};
 ghost use Rattle.version.specs.Grammar.{rules as versions};
 ghost use Rattle.version.specs.Reading.{precedence};
 ghost use Rattle.version.specs.Writing.{version-writing, written-output};
@@ -13,17 +13,27 @@ ghost use Rattle.language.specs.Grammar.{rules as languages};
 ghost use Rattle.language.specs.Reading.{equality, comparison as language-comparison};
 ghost use Rattle.etag.specs.Grammar.{rules as etags};
 ghost use Rattle.etag.specs.Reading.{strong-matching, weak-matching, comparison as etag-comparison};
+ghost use Rattle.date.specs.Grammar.{rules as dates};
+ghost use Rattle.date.specs.Writing.{writing as date-writing, written-output as date-output};
+ghost use Rattle.url.specs.Grammar.{rules as urls};
+ghost use Rattle.url.specs.Meaning.{same-page, pages};
+ghost use Rattle.url.specs.Reading.{comparison as url-comparison};
+ghost use Rattle.products.specs.Grammar.{rules as product-lists};
 ghost use Rattle.framing.specs.Reading.{decode as decoding, after as decoded-output};
 ghost use Rattle.chunk_writer.specs.Writing.{answered as encoding, after as encoded-output};
 ghost use Rattle.octets.specs.Writing.{written};
 ghost use Rattle.chunked.specs.Verdict.{verdict};
 ghost use Rattle.host.specs.Fields.{version-fields, order-number, order-fields, seconds-fields};
 ghost use Rattle.host.specs.Fields.{thousandths-fields, language-fields, etag-fields, same-fields};
+ghost use Rattle.host.specs.Fields.{date-fields, url-fields, part-fields, products-fields};
 ghost use Rattle.host.specs.Fields.{written-fields, body-fields};
 use chunked::Answer;
 use etag::Matching;
 use language::Equality;
+use octets::Refusal;
 use octets::Written;
+use url::Place;
+use url::Url;
 use version::Compared;
 use version::Order;
 use version::Version;
@@ -74,6 +84,56 @@ pub struct QzTag {
     pub length: usize,
 }
 
+// The fields of a date, and the seconds since 1970-01-01 00:00:00.
+#[repr(C)]
+pub struct QzDate {
+    pub number: u8,
+    pub place: usize,
+    pub seconds: i64,
+    pub year: u32,
+    pub month: u32,
+    pub day: u32,
+    pub hour: u32,
+    pub minute: u32,
+    pub second: u32,
+}
+
+// Where a part stands in the input.
+#[repr(C)]
+pub struct QzSpan {
+    pub start: usize,
+    pub length: usize,
+}
+
+// The same of a part that may be absent. A part that is there may be empty.
+#[repr(C)]
+pub struct QzPart {
+    pub present: bool,
+    pub start: usize,
+    pub length: usize,
+}
+
+// The path has its first `/`, the query is without its `?`.
+#[repr(C)]
+pub struct QzUrl {
+    pub number: u8,
+    pub place: usize,
+    pub host: QzSpan,
+    pub port: u16,
+    pub path: QzPart,
+    pub query: QzPart,
+}
+
+// How many products and outermost comments there are, and the deepest level of comments.
+#[repr(C)]
+pub struct QzProducts {
+    pub number: u8,
+    pub place: usize,
+    pub products: usize,
+    pub comments: usize,
+    pub deepest: usize,
+}
+
 // `which` is 1 or 2 where the first or the second input was refused; `same` says that the two are equal, or match.
 #[repr(C)]
 pub struct QzSame {
@@ -100,6 +160,13 @@ pub struct QzBody {
     pub taken: usize,
     pub length: usize,
 }
+
+// A part that is not there.
+const ABSENT: QzPart = QzPart {
+    present: false,
+    start: 0,
+    length: 0,
+};
 
 #[no_mangle]
 pub extern "C" fn qz_version_read(s: &[u8]) -> QzVersion
@@ -264,6 +331,107 @@ pub extern "C" fn qz_etag_weak_match(a: &[u8], b: &[u8]) -> QzSame
 }
 
 #[no_mangle]
+pub extern "C" fn qz_date_read(s: &[u8]) -> QzDate
+    ensures { λ r. ⌜ r ≡ date-fields (header dates (now (s .entry))) ⌝ }
+{
+    match date::read(s) {
+        date::Reading::Read(d) => QzDate {
+            number: 0,
+            place: 0,
+            seconds: d.seconds,
+            year: d.fields.year,
+            month: d.fields.month,
+            day: d.fields.day,
+            hour: d.fields.hour,
+            minute: d.fields.minute,
+            second: d.fields.second,
+        },
+        date::Reading::Refused(r) => QzDate {
+            number: r.number,
+            place: r.place,
+            seconds: 0,
+            year: 0,
+            month: 0,
+            day: 0,
+            hour: 0,
+            minute: 0,
+            second: 0,
+        },
+    }
+}
+
+#[no_mangle]
+pub extern "C" fn qz_date_write(seconds: i64, out: &mut [u8]) -> QzWritten
+    ensures answers { λ r. ⌜ r ≡ written-fields (date-writing seconds (length (now (out .entry)))) ⌝ }
+    ensures writes { λ _. ⌜ now (out .exit) ≡ date-output seconds (now (out .entry)) ⌝ }
+{
+    written_fields(date::write(seconds, out))
+}
+
+#[no_mangle]
+pub extern "C" fn qz_url_read(s: &[u8]) -> QzUrl
+    ensures { λ r. ⌜ r ≡ url-fields (header urls (now (s .entry))) ⌝ }
+{
+    match Url::read(s) {
+        url::Reading::Read(u) => {
+            let path = u.path;
+            let query = u.query;
+            QzUrl {
+                number: 0,
+                place: 0,
+                host: QzSpan {
+                    start: u.host.start,
+                    length: u.host.len,
+                },
+                port: u.port,
+                path: part_of(path),
+                query: part_of(query),
+            }
+        }
+        url::Reading::Refused(r) => QzUrl {
+            number: r.number,
+            place: r.place,
+            host: QzSpan {
+                start: 0,
+                length: 0,
+            },
+            port: 0,
+            path: ABSENT,
+            query: ABSENT,
+        },
+    }
+}
+
+#[no_mangle]
+pub extern "C" fn qz_url_equal(a: &[u8], b: &[u8]) -> QzSame
+    ensures { λ r. ⌜ r ≡ same-fields (comparing same-page (header pages (now (a .entry))) (header pages (now (b .entry)))) ⌝ }
+{
+    pages_of(Url::compare_bytes(a, b))
+}
+
+#[no_mangle]
+pub extern "C" fn qz_products_read(s: &[u8]) -> QzProducts
+    ensures { λ r. ⌜ r ≡ products-fields (header product-lists (now (s .entry))) ⌝ }
+{
+    match products::read(s) {
+        products::Reading::Read(v) => QzProducts {
+            number: 0,
+            place: 0,
+            products: v.products,
+            comments: v.comments,
+            deepest: v.deepest,
+        },
+        products::Reading::Refused(r) => QzProducts {
+            number: r.number,
+            place: r.place,
+            products: 0,
+            comments: 0,
+            deepest: 0,
+        },
+    }
+}
+
+#[no_mangle]
 pub extern "C" fn qz_chunked_decode(input: &[u8], out: &mut [u8]) -> QzBody
     ensures answers { λ r. ⌜ r ≡ body-fields (decoding (length (now (out .entry))) (now (input .entry))) ⌝ }
     ensures writes { λ _. ⌜ now (out .exit) ≡ decoded-output (now (input .entry)) (now (out .entry)) ⌝ }
@@ -334,34 +502,51 @@ fn body_of(a: Answer) -> QzBody
     }
 }
 
+fn part_of(p: Place) -> QzPart
+    ensures { λ r. ⌜ r ≡ part-fields p ⌝ }
+{
+    match p {
+        Place::Absent => ABSENT,
+        Place::At(span) => QzPart {
+            present: true,
+            start: span.start,
+            length: span.len,
+        },
+    }
+}
+
+// Two inputs that were read.
+fn compared(same: bool) -> QzSame
+    ensures { λ r. ⌜ r ≡ same-fields (outcome same) ⌝ }
+{
+    QzSame {
+        number: 0,
+        place: 0,
+        which: 0,
+        same,
+    }
+}
+
+// The first or the second input was refused.
+fn one_refused(which: u8, r: Refusal) -> QzSame
+    ensures { λ x. ⌜ x ≡ same-fields (refused-at which (r .number) (r .place)) ⌝ }
+{
+    QzSame {
+        number: r.number,
+        place: r.place,
+        which,
+        same: false,
+    }
+}
+
 fn equality_of(e: Equality) -> QzSame
     ensures { λ r. ⌜ r ≡ same-fields (language-comparison e) ⌝ }
 {
     match e {
-        Equality::Equal => QzSame {
-            number: 0,
-            place: 0,
-            which: 0,
-            same: true,
-        },
-        Equality::Different => QzSame {
-            number: 0,
-            place: 0,
-            which: 0,
-            same: false,
-        },
-        Equality::FirstRefused(r) => QzSame {
-            number: r.number,
-            place: r.place,
-            which: 1,
-            same: false,
-        },
-        Equality::SecondRefused(r) => QzSame {
-            number: r.number,
-            place: r.place,
-            which: 2,
-            same: false,
-        },
+        Equality::Equal => compared(true),
+        Equality::Different => compared(false),
+        Equality::FirstRefused(r) => one_refused(1, r),
+        Equality::SecondRefused(r) => one_refused(2, r),
     }
 }
 
@@ -369,29 +554,20 @@ fn matching_of(m: Matching) -> QzSame
     ensures { λ r. ⌜ r ≡ same-fields (etag-comparison m) ⌝ }
 {
     match m {
-        Matching::Matches => QzSame {
-            number: 0,
-            place: 0,
-            which: 0,
-            same: true,
-        },
-        Matching::Differs => QzSame {
-            number: 0,
-            place: 0,
-            which: 0,
-            same: false,
-        },
-        Matching::FirstRefused(r) => QzSame {
-            number: r.number,
-            place: r.place,
-            which: 1,
-            same: false,
-        },
-        Matching::SecondRefused(r) => QzSame {
-            number: r.number,
-            place: r.place,
-            which: 2,
-            same: false,
-        },
+        Matching::Matches => compared(true),
+        Matching::Differs => compared(false),
+        Matching::FirstRefused(r) => one_refused(1, r),
+        Matching::SecondRefused(r) => one_refused(2, r),
+    }
+}
+
+fn pages_of(c: url::Compared) -> QzSame
+    ensures { λ r. ⌜ r ≡ same-fields (url-comparison c) ⌝ }
+{
+    match c {
+        url::Compared::Equal => compared(true),
+        url::Compared::Different => compared(false),
+        url::Compared::FirstRefused(r) => one_refused(1, r),
+        url::Compared::SecondRefused(r) => one_refused(2, r),
     }
 }

@@ -1,6 +1,6 @@
 -- `host::matching_of` meets its contract.
 use borrow.Author.Needs.{needs}
-use mathlib.Core.Path.{_≡_, refl, sym, ap}
+use mathlib.Core.Path.{_≡_, refl, sym, ap, _∙_}
 use mathlib.Core.List.{[], _∷_}
 use denote.Enum.Declared.{tagOf}
 use types.Run.{OneOf, miss}
@@ -25,25 +25,33 @@ is-difference (FirstRefused r) h = absurd (miss (1 ∷ []) 2 tt h)
 is-difference (SecondRefused r) h = absurd (miss (1 ∷ []) 3 tt h)
 
 returns : tie.Need-returns
-returns c = sym (ap (λ (x : Matching). same-fields (comparison x)) (is-match (c .before .before .args .m) (c .before .match .keys1)))
+returns c =
+    c .compared .ensures
+    ∙ sym (ap (λ (x : Matching). same-fields (comparison x)) (is-match (c .before .before .before .args .m) (c .before .before .match .keys1)))
 
 returns-2 : tie.Need-returns-2
-returns-2 c = sym (ap (λ (x : Matching). same-fields (comparison x)) (is-difference (c .before .before .args .m) (c .before .match .keys2)))
+returns-2 c =
+    c .compared2 .ensures
+    ∙ sym (ap (λ (x : Matching). same-fields (comparison x)) (is-difference (c .before .before .before .args .m) (c .before .before .match .keys2)))
 
 returns-3 : tie.Need-returns-3
-returns-3 c = sym (ap (λ (x : Matching). same-fields (comparison x)) (c .before .m .given .1))
+returns-3 c = c .one-refused .ensures ∙ sym (ap (λ (x : Matching). same-fields (comparison x)) (c .before .before .m .given .1))
 
 returns-4 : tie.Need-returns-4
-returns-4 c = sym (ap (λ (x : Matching). same-fields (comparison x)) (c .before .m2 .given .1))
+returns-4 c = c .one-refused2 .ensures ∙ sym (ap (λ (x : Matching). same-fields (comparison x)) (c .before .before .m2 .given .1))
 
 pub matching-of-spec : {M : Type 1} → statement M
 matching-of-spec =
     tie.close
     (tie.spec
     (λ c. search needs)
+    (λ c κs. search needs)
     (λ c. search needs)
+    (λ c κs. search needs)
     (λ c. search needs)
+    (λ c κs. search needs)
     (λ c. search needs)
+    (λ c κs. search needs)
     returns
     returns-2
     returns-3
