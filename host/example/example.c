@@ -9,13 +9,18 @@ static const uint8_t *bytes(const char *text)
     return (const uint8_t *)text;
 }
 
+static void show_refusal(const char *text, uint8_t number, size_t place)
+{
+    printf("%s: refused, %u at %lu\n", text, (unsigned)number, (unsigned long)place);
+}
+
 static void show_version(const char *text)
 {
     QzVersion v = qz_version_read(bytes(text), strlen(text));
     if (v.number == 0) {
         printf("%s: %lu and %lu\n", text, (unsigned long)v.major, (unsigned long)v.minor);
     } else {
-        printf("%s: refused, %u at %lu\n", text, (unsigned)v.number, (unsigned long)v.place);
+        show_refusal(text, v.number, v.place);
     }
 }
 
@@ -69,6 +74,81 @@ static void show_written(const char *what, QzWritten w)
     printf("%s: number %u, %lu bytes\n", what, (unsigned)w.number, (unsigned long)w.length);
 }
 
+static void show_date(const char *text)
+{
+    QzDate d = qz_date_read(bytes(text), strlen(text));
+    if (d.number != 0) {
+        show_refusal(text, d.number, d.place);
+        return;
+    }
+    printf("%s: %04lu-%02lu-%02lu %02lu:%02lu:%02lu, %lld seconds\n", text, (unsigned long)d.year,
+           (unsigned long)d.month, (unsigned long)d.day, (unsigned long)d.hour, (unsigned long)d.minute,
+           (unsigned long)d.second, (long long)d.seconds);
+}
+
+static void show_dates(void)
+{
+    uint8_t out[64];
+    QzWritten w;
+    show_date("Sunday, 06-Nov-94 08:49:37 GMT");
+    show_date("Wed, 31 Dec 1969 23:59:59 GMT");
+    show_date("Mon, 06 Nov 1994 08:49:37 GMT");
+    w = qz_date_write(951782400, out, sizeof out);
+    show_written("instant 951782400", w);
+    printf("%.*s\n", (int)w.length, (const char *)out);
+    show_written("instant 253402300800", qz_date_write(253402300800, out, sizeof out));
+    show_written("instant 0 in 28 bytes", qz_date_write(0, out, 28));
+}
+
+static void show_part(const char *name, const char *text, QzPart p)
+{
+    if (p.present) {
+        printf(", %s %.*s", name, (int)p.length, text + p.start);
+    } else {
+        printf(", %s absent", name);
+    }
+}
+
+static void show_url(const char *text)
+{
+    QzUrl u = qz_url_read(bytes(text), strlen(text));
+    if (u.number != 0) {
+        show_refusal(text, u.number, u.place);
+        return;
+    }
+    printf("%s: host %.*s, port %u", text, (int)u.host.length, text + u.host.start, (unsigned)u.port);
+    show_part("path", text, u.path);
+    show_part("query", text, u.query);
+    printf("\n");
+}
+
+static void show_equal_urls(const char *a, const char *b)
+{
+    printf("%s equals ", a);
+    show_same(b, qz_url_equal(bytes(a), strlen(a), bytes(b), strlen(b)));
+}
+
+static void show_urls(void)
+{
+    show_url("http://abc.com:8080/~smith/home.html?a");
+    show_url("http://abc.com");
+    show_url("http://abc.com:65536");
+    show_equal_urls("http://abc.com:80/~smith/home.html", "http://ABC.com:/%7esmith/home.html");
+    show_equal_urls("http://a/", "http://a/?");
+    show_equal_urls("http://a", "http://a#");
+}
+
+static void show_products(const char *text)
+{
+    QzProducts p = qz_products_read(bytes(text), strlen(text));
+    if (p.number != 0) {
+        show_refusal(text, p.number, p.place);
+        return;
+    }
+    printf("%s: %lu products, %lu comments, deepest level %lu\n", text, (unsigned long)p.products,
+           (unsigned long)p.comments, (unsigned long)p.deepest);
+}
+
 static void show_body(const char *what, QzBody b)
 {
     static const char *const states[] = {"whole", "more", "refused"};
@@ -100,6 +180,12 @@ int main(void)
     show_written("500 thousandths", w);
     printf("%.*s\n", (int)w.length, (const char *)out);
     show_written("1001 thousandths", qz_qvalue_write(1001, out, sizeof out));
+
+    show_dates();
+    show_urls();
+    show_products("CERN-LineMode/2.15 libwww/2.17b3");
+    show_products("a (b (c)) (d)");
+    show_products("(((((((((");
 
     w = qz_chunked_encode(bytes("hello"), 5, 2, out, sizeof out);
     show_written("hello at length 2", w);

@@ -23,11 +23,14 @@ extern "C" {
 enum {
     QZ_MALFORMED = 1,          /* place: the length of the longest beginning that some continuation completes */
     QZ_NUMBER_ABOVE_LIMIT = 2, /* place: the digit that passes it */
+    QZ_NO_SUCH_DATE = 3,       /* no such date or time; place: 0 */
+    QZ_WRONG_DAY_NAME = 4,     /* the day name disagrees with the date; place: 0 */
     QZ_LINE_TOO_LONG = 5,      /* chunk line above 1,024 bytes; place: its byte 1,025 */
     QZ_TRAILER_TOO_LONG = 6,   /* trailer above 8,192 bytes; place: its byte 8,193 */
     QZ_BODY_TOO_LARGE = 7,     /* larger than the output (reader; place: the size digit), above 2^30 bytes (writer; 0) */
     QZ_OUTPUT_TOO_SHORT = 8,   /* place: 0 */
     QZ_OUT_OF_RANGE = 9,       /* an argument outside its range; place: 0 */
+    QZ_COMMENT_TOO_DEEP = 12,  /* comment nested deeper than 8; place: the ninth open parenthesis */
     QZ_VALUE_TOO_LONG = 13     /* header value above 8,192 bytes; place: 8,192 */
 };
 
@@ -71,6 +74,48 @@ typedef struct QzTag {
     size_t start; /* the first byte between the quotes */
     size_t length;
 } QzTag;
+
+typedef struct QzDate {
+    uint8_t number;
+    size_t place;
+    int64_t seconds; /* since 1970-01-01 00:00:00; negative before it */
+    uint32_t year;   /* 1583 to 9999 */
+    uint32_t month;  /* from 1 */
+    uint32_t day;
+    uint32_t hour;
+    uint32_t minute;
+    uint32_t second;
+} QzDate;
+
+/* Where a part stands in the input. */
+typedef struct QzSpan {
+    size_t start;
+    size_t length;
+} QzSpan;
+
+/* The same of a part that may be absent. A part that is present may be empty. */
+typedef struct QzPart {
+    bool present;
+    size_t start;
+    size_t length;
+} QzPart;
+
+typedef struct QzUrl {
+    uint8_t number;
+    size_t place;
+    QzSpan host;
+    uint16_t port; /* 80 where it is empty or absent */
+    QzPart path;   /* with its first `/` */
+    QzPart query;  /* without the `?` */
+} QzUrl;
+
+typedef struct QzProducts {
+    uint8_t number;
+    size_t place;
+    size_t products;
+    size_t comments; /* outermost ones */
+    size_t deepest;  /* the deepest level of comments; 0 without comments */
+} QzProducts;
 
 typedef struct QzSame {
     uint8_t number;
@@ -125,6 +170,22 @@ QzSame qz_etag_strong_match(const uint8_t *a, size_t a_len, const uint8_t *b, si
 
 /* Reads first `a`, then `b`; `same` where the quoted bytes are the same as sent. */
 QzSame qz_etag_weak_match(const uint8_t *a, size_t a_len, const uint8_t *b, size_t b_len);
+
+/* A date in the form of RFC 1123, of RFC 850 or of asctime. */
+QzDate qz_date_read(const uint8_t *s, size_t s_len);
+
+/* Writes the 29 bytes of the RFC 1123 form; the range is -12,212,553,600 to 253,402,300,799. */
+QzWritten qz_date_write(int64_t seconds, uint8_t *out, size_t out_len);
+
+/* An http URL; the port is at most 65,535. */
+QzUrl qz_url_read(const uint8_t *s, size_t s_len);
+
+/* Reads first `a`, then `b`; `same` where they name the same page: host without case, port as a number, an absent
+ * path as `/`, an escape of a letter, a digit or one of - _ . ! ~ * ' ( ) as that character. */
+QzSame qz_url_equal(const uint8_t *a, size_t a_len, const uint8_t *b, size_t b_len);
+
+/* Products and comments with blanks between; comments hold comments to eight levels. */
+QzProducts qz_products_read(const uint8_t *s, size_t s_len);
 
 /* Reads a chunked body at the front of the input and writes its data; at most `out_len` bytes of it. */
 QzBody qz_chunked_decode(const uint8_t *input, size_t input_len, uint8_t *out, size_t out_len);

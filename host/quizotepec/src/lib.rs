@@ -51,6 +51,49 @@ pub struct EntityTag {
     pub length: usize,
 }
 
+/// A date, a time of day and the instant that they name.
+#[derive(Clone, Copy, Debug, PartialEq, Eq, Hash)]
+pub struct Date {
+    pub year: u32,
+    /// From 1.
+    pub month: u32,
+    pub day: u32,
+    pub hour: u32,
+    pub minute: u32,
+    pub second: u32,
+    /// Since 1970-01-01 00:00:00; negative before it.
+    pub seconds: i64,
+}
+
+/// Where a part stands in the bytes that were read.
+#[derive(Clone, Copy, Debug, PartialEq, Eq, Hash)]
+pub struct Span {
+    pub start: usize,
+    pub length: usize,
+}
+
+/// An http URL.
+#[derive(Clone, Copy, Debug, PartialEq, Eq, Hash)]
+pub struct Url {
+    pub host: Span,
+    /// 80 where it is empty or absent.
+    pub port: u16,
+    /// With its first `/`.
+    pub path: Option<Span>,
+    /// Without the `?`.
+    pub query: Option<Span>,
+}
+
+/// What products and comments hold.
+#[derive(Clone, Copy, Debug, PartialEq, Eq, Hash)]
+pub struct Products {
+    pub products: usize,
+    /// Outermost comments.
+    pub comments: usize,
+    /// The deepest level of comments; 0 without comments.
+    pub deepest: usize,
+}
+
 /// The answer of the chunked reader.
 #[derive(Clone, Copy, Debug, PartialEq, Eq, Hash)]
 pub enum Decoded {
@@ -82,6 +125,14 @@ fn unless_one_refused<T>(number: u8, place: usize, which: u8, answer: T) -> Resu
 
 fn same(s: raw::QzSame) -> Result<bool, Refused> {
     unless_one_refused(s.number, s.place, s.which, s.same)
+}
+
+fn span(s: raw::QzSpan) -> Span {
+    Span { start: s.start, length: s.length }
+}
+
+fn part(p: raw::QzPart) -> Option<Span> {
+    p.present.then_some(Span { start: p.start, length: p.length })
 }
 
 /// Reads `HTTP/` digits `.` digits.
@@ -159,6 +210,86 @@ pub fn etag_strong_match(first: &[u8], second: &[u8]) -> Result<bool, Refused> {
 pub fn etag_weak_match(first: &[u8], second: &[u8]) -> Result<bool, Refused> {
     // SAFETY: both pointers are valid for reads of their lengths.
     same(unsafe { raw::qz_etag_weak_match(first.as_ptr(), first.len(), second.as_ptr(), second.len()) })
+}
+
+/// Reads a date in the form of RFC 1123, of RFC 850 or of asctime.
+///
+/// ```
+/// let date = quizotepec::date_read(b"Sun, 06 Nov 1994 08:49:37 GMT").unwrap();
+/// assert_eq!((date.year, date.month, date.day), (1994, 11, 6));
+/// assert_eq!((date.hour, date.minute, date.second), (8, 49, 37));
+/// assert_eq!(date.seconds, 784_111_777);
+/// // No such date is refusal 3, a day name that disagrees is refusal 4.
+/// assert_eq!(quizotepec::date_read(b"Thu, 29 Feb 1900 00:00:00 GMT").unwrap_err().number, 3);
+/// assert_eq!(quizotepec::date_read(b"Mon, 06 Nov 1994 08:49:37 GMT").unwrap_err().number, 4);
+/// ```
+pub fn date_read(value: &[u8]) -> Result<Date, Refusal> {
+    // SAFETY: the pointer is valid for reads of the length.
+    let d = unsafe { raw::qz_date_read(value.as_ptr(), value.len()) };
+    let raw::QzDate { number, place, seconds, year, month, day, hour, minute, second } = d;
+    unless_refused(number, place, Date { year, month, day, hour, minute, second, seconds })
+}
+
+/// Writes the 29 bytes of an instant's RFC 1123 form and gives their number.
+///
+/// ```
+/// let mut out = [b'.'; 30];
+/// assert_eq!(quizotepec::date_write(-1, &mut out), Ok(29));
+/// assert_eq!(&out, b"Wed, 31 Dec 1969 23:59:59 GMT.");
+/// // Outside years 1583 to 9999 it is refusal 9, in a shorter output refusal 8.
+/// assert_eq!(quizotepec::date_write(253_402_300_800, &mut out).unwrap_err().number, 9);
+/// assert_eq!(quizotepec::date_write(-1, &mut out[..28]).unwrap_err().number, 8);
+/// ```
+pub fn date_write(seconds: i64, out: &mut [u8]) -> Result<usize, Refusal> {
+    // SAFETY: the output is borrowed alone and valid for writes of its length.
+    written(unsafe { raw::qz_date_write(seconds, out.as_mut_ptr(), out.len()) })
+}
+
+/// Reads an http URL.
+///
+/// ```
+/// let text = b"http://abc.com/~smith/home.html?a";
+/// let url = quizotepec::url_read(text).unwrap();
+/// let bytes = |part: quizotepec::Span| &text[part.start..part.start + part.length];
+/// assert_eq!((bytes(url.host), url.port), (&b"abc.com"[..], 80));
+/// assert_eq!(url.path.map(bytes), Some(&b"/~smith/home.html"[..]));
+/// assert_eq!(url.query.map(bytes), Some(&b"a"[..]));
+/// // A port above 65,535 is refusal 2, at the digit that passes it.
+/// let refusal = quizotepec::Refusal { number: 2, place: 13 };
+/// assert_eq!(quizotepec::url_read(b"http://a:65536/"), Err(refusal));
+/// ```
+pub fn url_read(value: &[u8]) -> Result<Url, Refusal> {
+    // SAFETY: the pointer is valid for reads of the length.
+    let u = unsafe { raw::qz_url_read(value.as_ptr(), value.len()) };
+    let url = Url { host: span(u.host), port: u.port, path: part(u.path), query: part(u.query) };
+    unless_refused(u.number, u.place, url)
+}
+
+/// Reads first one URL, then the other, and says whether they name the same page.
+///
+/// ```
+/// let page = b"http://abc.com:80/~smith/home.html";
+/// assert_eq!(quizotepec::url_equal(page, b"http://ABC.com:/%7esmith/home.html"), Ok(true));
+/// assert_eq!(quizotepec::url_equal(b"http://a/%2F", b"http://a/%2f"), Ok(false));
+/// ```
+pub fn url_equal(first: &[u8], second: &[u8]) -> Result<bool, Refused> {
+    // SAFETY: both pointers are valid for reads of their lengths.
+    same(unsafe { raw::qz_url_equal(first.as_ptr(), first.len(), second.as_ptr(), second.len()) })
+}
+
+/// Reads products and comments, with blanks between.
+///
+/// ```
+/// let read = quizotepec::products_read(b"CERN-LineMode/2.15 (a (b)) libwww/2.17b3").unwrap();
+/// assert_eq!((read.products, read.comments, read.deepest), (2, 1, 2));
+/// // The ninth open level is refusal 12.
+/// assert_eq!(quizotepec::products_read(b"(((((((((").unwrap_err().number, 12);
+/// ```
+pub fn products_read(value: &[u8]) -> Result<Products, Refusal> {
+    // SAFETY: the pointer is valid for reads of the length.
+    let p = unsafe { raw::qz_products_read(value.as_ptr(), value.len()) };
+    let products = Products { products: p.products, comments: p.comments, deepest: p.deepest };
+    unless_refused(p.number, p.place, products)
 }
 
 /// Reads a chunked body at the front of the input; the room is the output's length.

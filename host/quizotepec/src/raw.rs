@@ -53,6 +53,61 @@ pub struct QzTag {
     pub length: usize,
 }
 
+/// The fields of a date, and the seconds since 1970-01-01 00:00:00.
+#[repr(C)]
+#[derive(Clone, Copy, Debug, PartialEq, Eq)]
+pub struct QzDate {
+    pub number: u8,
+    pub place: usize,
+    pub seconds: i64,
+    pub year: u32,
+    pub month: u32,
+    pub day: u32,
+    pub hour: u32,
+    pub minute: u32,
+    pub second: u32,
+}
+
+/// Where a part stands in the input.
+#[repr(C)]
+#[derive(Clone, Copy, Debug, PartialEq, Eq)]
+pub struct QzSpan {
+    pub start: usize,
+    pub length: usize,
+}
+
+/// The same of a part that may be absent. A part that is present may be empty.
+#[repr(C)]
+#[derive(Clone, Copy, Debug, PartialEq, Eq)]
+pub struct QzPart {
+    pub present: bool,
+    pub start: usize,
+    pub length: usize,
+}
+
+/// The path has its first `/`, the query is without its `?`.
+#[repr(C)]
+#[derive(Clone, Copy, Debug, PartialEq, Eq)]
+pub struct QzUrl {
+    pub number: u8,
+    pub place: usize,
+    pub host: QzSpan,
+    pub port: u16,
+    pub path: QzPart,
+    pub query: QzPart,
+}
+
+/// How many products and outermost comments there are, and the deepest level of comments.
+#[repr(C)]
+#[derive(Clone, Copy, Debug, PartialEq, Eq)]
+pub struct QzProducts {
+    pub number: u8,
+    pub place: usize,
+    pub products: usize,
+    pub comments: usize,
+    pub deepest: usize,
+}
+
 /// `which` is 1 or 2 where the first or the second input was refused; `same` says that the two are equal, or match.
 #[repr(C)]
 #[derive(Clone, Copy, Debug, PartialEq, Eq)]
@@ -95,6 +150,11 @@ extern "C" {
     pub fn qz_etag_read(s: *const u8, s_len: usize) -> QzTag;
     pub fn qz_etag_strong_match(a: *const u8, a_len: usize, b: *const u8, b_len: usize) -> QzSame;
     pub fn qz_etag_weak_match(a: *const u8, a_len: usize, b: *const u8, b_len: usize) -> QzSame;
+    pub fn qz_date_read(s: *const u8, s_len: usize) -> QzDate;
+    pub fn qz_date_write(seconds: i64, out: *mut u8, out_len: usize) -> QzWritten;
+    pub fn qz_url_read(s: *const u8, s_len: usize) -> QzUrl;
+    pub fn qz_url_equal(a: *const u8, a_len: usize, b: *const u8, b_len: usize) -> QzSame;
+    pub fn qz_products_read(s: *const u8, s_len: usize) -> QzProducts;
     pub fn qz_chunked_decode(input: *const u8, input_len: usize, out: *mut u8, out_len: usize) -> QzBody;
     pub fn qz_chunked_encode(
         body: *const u8,
