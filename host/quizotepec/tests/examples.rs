@@ -1,12 +1,13 @@
-//! The examples of document 01, as written there.
+//! The examples of document 01 and of RFC 2616 section 3, as written there, and cases beside them.
 
 mod common;
 
 use common::lend;
 use quizotepec::{
-    chunked_decode, chunked_encode, delta_read, etag_read, etag_strong_match, etag_weak_match,
-    language_equal, language_read, qvalue_read, qvalue_write, version_compare, version_read, version_write,
-    Decoded, EntityTag, LanguageTag, Refusal, Refused, Version, Which,
+    chunked_decode, chunked_encode, date_read, date_write, delta_read, etag_read, etag_strong_match,
+    etag_weak_match, language_equal, language_read, products_read, qvalue_read, qvalue_write, url_equal,
+    url_read, version_compare, version_read, version_write, Date, Decoded, EntityTag, LanguageTag, Products,
+    Refusal, Refused, Span, Url, Version, Which,
 };
 use std::cmp::Ordering;
 
@@ -94,4 +95,103 @@ fn tags() {
     assert_eq!(etag_strong_match(b"W/\"a\"", b"W/\"a\""), Ok(false));
     assert_eq!(etag_weak_match(b"W/\"a\"", b"\"a\""), Ok(true));
     assert_eq!(etag_weak_match(b"W/\"a\"", b"\"A\""), Ok(false));
+}
+
+#[test]
+fn dates() {
+    let rfc = Date { year: 1994, month: 11, day: 6, hour: 8, minute: 49, second: 37, seconds: 784_111_777 };
+    let grammar = Date { year: 1982, month: 6, day: 2, hour: 0, minute: 0, second: 0, seconds: 391_824_000 };
+    for (text, date) in [
+        ("Sun, 06 Nov 1994 08:49:37 GMT", rfc),
+        ("Sunday, 06-Nov-94 08:49:37 GMT", rfc),
+        ("Sun Nov  6 08:49:37 1994", rfc),
+        ("Sun Nov 06 08:49:37 1994", rfc),
+        ("Wed, 02 Jun 1982 00:00:00 GMT", grammar),
+        ("Wednesday, 02-Jun-82 00:00:00 GMT", grammar),
+        ("Wed Jun  2 00:00:00 1982", grammar),
+    ] {
+        assert_eq!(date_read(text.as_bytes()), Ok(date), "{text}");
+    }
+    for (text, number, place) in [
+        ("Mon, 06 Nov 1994 08:49:37 GMT", 4, 0),
+        ("Thu, 29 Feb 1900 00:00:00 GMT", 3, 0),
+        ("Fri, 31 Dec 1582 23:59:59 GMT", 3, 0),
+        ("Mon, 06 Nov 1994 24:00:00 GMT", 3, 0),
+        ("Sun, 06 Nov 1994 08:49:37 gmt", 1, 26),
+        ("Sun Nov 6 08:49:37 1994", 1, 9),
+        ("Sun, 06 Nov 1994 08:49:37 GMT ", 1, 29),
+        ("Sun, 06 Nov", 1, 11),
+        ("", 1, 0),
+    ] {
+        assert_eq!(date_read(text.as_bytes()), no(number, place), "{text}");
+    }
+    let seconds = |text: &str| date_read(text.as_bytes()).map(|date| (date.year, date.seconds));
+    assert_eq!(seconds("Tuesday, 31-Dec-69 00:00:00 GMT"), Ok((2069, 3_155_673_600)));
+    assert_eq!(seconds("Thursday, 01-Jan-70 00:00:00 GMT"), Ok((1970, 0)));
+    assert_eq!(date_read(&[b'S'; 8_193]), no(13, 8_192));
+}
+
+#[test]
+fn instants() {
+    let write = |seconds, room, text: &str| lend(room, |out| date_write(seconds, out), |_| text.into());
+    for (seconds, text) in [
+        (784_111_777, "Sun, 06 Nov 1994 08:49:37 GMT"),
+        (-1, "Wed, 31 Dec 1969 23:59:59 GMT"),
+        (951_782_400, "Tue, 29 Feb 2000 00:00:00 GMT"),
+        (-12_212_553_600, "Sat, 01 Jan 1583 00:00:00 GMT"),
+        (253_402_300_799, "Fri, 31 Dec 9999 23:59:59 GMT"),
+    ] {
+        assert_eq!(date_read(text.as_bytes()).map(|date| date.seconds), Ok(seconds));
+        assert_eq!(write(seconds, 29, text), Ok(29));
+        assert_eq!(write(seconds, 30, text), Ok(29));
+        assert_eq!(write(seconds, 28, ""), no(8, 0));
+    }
+    for seconds in [-12_212_553_601, 253_402_300_800, i64::MIN, i64::MAX] {
+        assert_eq!(write(seconds, AMPLE, ""), no(9, 0));
+        assert_eq!(write(seconds, 0, ""), no(9, 0));
+    }
+}
+
+#[test]
+fn urls() {
+    let span = |start, length| Span { start, length };
+    let url = |host, port, path, query| Ok(Url { host, port, path, query });
+    let some = |start, length| Some(span(start, length));
+    let smith = b"http://abc.com:80/~smith/home.html";
+    assert_eq!(url_read(smith), url(span(7, 7), 80, some(17, 17), None));
+    assert_eq!(url_read(b"http://ABC.com:/%7esmith/home.html"), url(span(7, 7), 80, some(15, 19), None));
+    assert_eq!(url_read(b"HTTP://a"), url(span(7, 1), 80, None, None));
+    assert_eq!(url_read(b"http://a:65535/?"), url(span(7, 1), 65_535, some(14, 1), some(16, 0)));
+    assert_eq!(url_read(b"http://a:65536/"), no(2, 13));
+    assert_eq!(url_read(b"http://a?x"), no(1, 8));
+    assert_eq!(url_read(b"http://a/#"), no(1, 9));
+    assert_eq!(url_read(b"http://a/%4"), no(1, 11));
+    assert_eq!(url_read(&[b'h'; 8_193]), no(13, 8_192));
+    assert_eq!(url_equal(smith, b"http://ABC.com/%7Esmith/home.html"), Ok(true));
+    assert_eq!(url_equal(smith, b"http://ABC.com:/%7esmith/home.html"), Ok(true));
+    assert_eq!(url_equal(b"http://a", b"http://a/"), Ok(true));
+    assert_eq!(url_equal(b"http://a/", b"http://a/?"), Ok(false));
+    assert_eq!(url_equal(b"http://a/%2F", b"http://a/%2f"), Ok(false));
+    assert_eq!(url_equal(b"http://a/%2F", b"http://a//"), Ok(false));
+    assert_eq!(url_equal(b"http://a/b", b"http://a/B"), Ok(false));
+    let refused = |which, number, place| Err(Refused { which, refusal: Refusal { number, place } });
+    assert_eq!(url_equal(b"http:", b""), refused(Which::First, 1, 5));
+    assert_eq!(url_equal(b"http://a", b"http://a:65536"), refused(Which::Second, 2, 13));
+}
+
+#[test]
+fn products() {
+    let counts = |products, comments, deepest| Ok(Products { products, comments, deepest });
+    assert_eq!(products_read(b"CERN-LineMode/2.15 libwww/2.17b3"), counts(2, 0, 0));
+    assert_eq!(products_read(b"Apache/0.8.4"), counts(1, 0, 0));
+    assert_eq!(products_read(b"a(b (c)\\))\td (e)"), counts(2, 2, 2));
+    assert_eq!(products_read(b"((((((((x))))))))"), counts(0, 1, 8));
+    assert_eq!(products_read(b"(((((((((x)))))))))"), no(12, 8));
+    assert_eq!(products_read(b"(((((((("), no(1, 8));
+    assert_eq!(products_read(b"a/"), no(1, 2));
+    assert_eq!(products_read(b"a "), no(1, 2));
+    assert_eq!(products_read(b" a"), no(1, 0));
+    assert_eq!(products_read(b"a/b/c"), no(1, 3));
+    assert_eq!(products_read(&[b'('; 8_192]), no(12, 8));
+    assert_eq!(products_read(&[b'('; 8_193]), no(13, 8_192));
 }

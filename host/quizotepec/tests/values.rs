@@ -3,111 +3,220 @@
 mod common;
 
 use common::{refusal, refused, RANDOM};
-use independent::generate::{any, at_limits, every, pair, short, valid, Kind, Rng};
-use independent::{delta, etag, language, qvalue, version};
+use independent::generate::{any, at_limits, every, pair, short, valid, Kind, Rng, Short};
+use independent::{date, delta, etag, language, products, qvalue, url, version};
 use quizotepec::{
-    delta_read, etag_read, etag_strong_match, etag_weak_match, language_equal, language_read, qvalue_read,
-    raw, version_compare, version_read, EntityTag, LanguageTag, Version,
+    date_read, delta_read, etag_read, etag_strong_match, etag_weak_match, language_equal, language_read,
+    products_read, qvalue_read, raw, url_equal, url_read, version_compare, version_read, Date, EntityTag,
+    LanguageTag, Products, Refusal, Refused, Span, Url, Version,
 };
+use std::fmt::Debug;
 
-const KINDS: [Kind; 5] = [Kind::Version, Kind::Delta, Kind::Qvalue, Kind::Language, Kind::EntityTag];
-/// The kinds whose values are compared.
-const COMPARED: [Kind; 3] = [Kind::Version, Kind::Language, Kind::EntityTag];
+/// The kinds that are read; each function holds both readers to one input.
+const READ: [(Kind, fn(&[u8])); 8] = [
+    (Kind::Version, version_agrees),
+    (Kind::Delta, delta_agrees),
+    (Kind::Qvalue, qvalue_agrees),
+    (Kind::Language, language_agrees),
+    (Kind::EntityTag, etag_agrees),
+    (Kind::Date, date_agrees),
+    (Kind::Url, url_agrees),
+    (Kind::Products, products_agrees),
+];
+/// The kinds whose values are compared, likewise.
+const COMPARED: [(Kind, fn(&[u8], &[u8])); 4] = [
+    (Kind::Version, versions_agree),
+    (Kind::Language, languages_agree),
+    (Kind::EntityTag, etags_agree),
+    (Kind::Url, urls_agree),
+];
 /// How many well-formed values are cut at every place.
 const CUT: usize = 5_000;
+/// About how many short strings of a kind are compared with each other.
+const FEW: usize = 800;
 
-/// Both read alike, and a field without a meaning is 0.
-fn agree(kind: Kind, input: &[u8]) {
-    let (from, len) = (input.as_ptr(), input.len());
-    // SAFETY: the pointer and the length are those of a slice.
-    let unused = match kind {
-        Kind::Version => {
-            let expected =
-                version::read(input).map(|v| Version { major: v.major.into(), minor: v.minor.into() });
-            assert_eq!(version_read(input), expected.map_err(refusal), "{input:?}");
-            let v = unsafe { raw::qz_version_read(from, len) };
-            [(v.number == 0, v.place as u64), (v.number != 0, u64::from(v.major) + u64::from(v.minor))]
-        }
-        Kind::Delta => {
-            assert_eq!(delta_read(input), delta::read(input).map_err(refusal), "{input:?}");
-            let n = unsafe { raw::qz_delta_read(from, len) };
-            [(n.number == 0, n.place as u64), (n.number != 0, n.value.into())]
-        }
-        Kind::Qvalue => {
-            assert_eq!(qvalue_read(input), qvalue::read(input).map_err(refusal), "{input:?}");
-            let n = unsafe { raw::qz_qvalue_read(from, len) };
-            [(n.number == 0, n.place as u64), (n.number != 0, n.value.into())]
-        }
-        Kind::Language => {
-            let expected = language::read(input).map(|t| LanguageTag { parts: t.parts, primary: t.first });
-            assert_eq!(language_read(input), expected.map_err(refusal), "{input:?}");
-            let t = unsafe { raw::qz_language_read(from, len) };
-            [(t.number == 0, t.place as u64), (t.number != 0, (t.parts + t.primary) as u64)]
-        }
-        Kind::EntityTag => {
-            let tag = |t: etag::EntityTag| EntityTag {
-                weak: t.weak,
-                start: t.opaque.start,
-                length: t.opaque.length,
-            };
-            assert_eq!(etag_read(input), etag::read(input).map(tag).map_err(refusal), "{input:?}");
-            let t = unsafe { raw::qz_etag_read(from, len) };
-            [
-                (t.number == 0, t.place as u64),
-                (t.number != 0, (usize::from(t.weak) + t.start + t.length) as u64),
-            ]
-        }
-        _ => panic!("no reader of {kind:?}"),
-    };
-    assert!(unused.iter().all(|(unused, value)| !unused || *value == 0), "{input:?}: {unused:?}");
+/// The answers are the same.
+fn alike<T: Debug + PartialEq>(
+    input: &[u8],
+    answer: Result<T, Refusal>,
+    expected: Result<T, independent::Refusal>,
+) {
+    assert_eq!(answer, expected.map_err(refusal), "{input:?}");
 }
 
-fn agree_on_pair(kind: Kind, first: &[u8], second: &[u8]) {
-    match kind {
-        Kind::Version => {
-            let expected = version::compare(first, second).map_err(refused);
-            assert_eq!(version_compare(first, second), expected, "{first:?} {second:?}");
-        }
-        Kind::Language => {
-            let expected = language::equal(first, second).map_err(refused);
-            assert_eq!(language_equal(first, second), expected, "{first:?} {second:?}");
-        }
-        Kind::EntityTag => {
-            let expected = etag::strong_match(first, second).map_err(refused);
-            assert_eq!(etag_strong_match(first, second), expected, "{first:?} {second:?}");
-            let expected = etag::weak_match(first, second).map_err(refused);
-            assert_eq!(etag_weak_match(first, second), expected, "{first:?} {second:?}");
-        }
-        _ => panic!("no comparison of {kind:?}"),
+/// A field without a meaning is 0: the place of an answer, the values of a refusal.
+fn unused(input: &[u8], number: u8, place: usize, values: &[u64]) {
+    let zero = if number == 0 { place == 0 } else { values.iter().all(|value| *value == 0) };
+    assert!(zero, "{input:?}: {number} at {place}, {values:?}");
+}
+
+fn version_agrees(input: &[u8]) {
+    let expected = version::read(input).map(|v| Version { major: v.major.into(), minor: v.minor.into() });
+    alike(input, version_read(input), expected);
+    // SAFETY: here and below the pointer and the length are those of a slice.
+    let v = unsafe { raw::qz_version_read(input.as_ptr(), input.len()) };
+    unused(input, v.number, v.place, &[v.major.into(), v.minor.into()]);
+}
+
+fn delta_agrees(input: &[u8]) {
+    alike(input, delta_read(input), delta::read(input));
+    let n = unsafe { raw::qz_delta_read(input.as_ptr(), input.len()) };
+    unused(input, n.number, n.place, &[n.value.into()]);
+}
+
+fn qvalue_agrees(input: &[u8]) {
+    alike(input, qvalue_read(input), qvalue::read(input));
+    let n = unsafe { raw::qz_qvalue_read(input.as_ptr(), input.len()) };
+    unused(input, n.number, n.place, &[n.value.into()]);
+}
+
+fn language_agrees(input: &[u8]) {
+    let expected = language::read(input).map(|t| LanguageTag { parts: t.parts, primary: t.first });
+    alike(input, language_read(input), expected);
+    let t = unsafe { raw::qz_language_read(input.as_ptr(), input.len()) };
+    unused(input, t.number, t.place, &[t.parts as u64, t.primary as u64]);
+}
+
+fn etag_agrees(input: &[u8]) {
+    let tag = |t: etag::EntityTag| EntityTag { weak: t.weak, start: t.opaque.start, length: t.opaque.length };
+    alike(input, etag_read(input), etag::read(input).map(tag));
+    let t = unsafe { raw::qz_etag_read(input.as_ptr(), input.len()) };
+    unused(input, t.number, t.place, &[t.weak.into(), t.start as u64, t.length as u64]);
+}
+
+fn date_agrees(input: &[u8]) {
+    let date = |d: date::Date| Date {
+        year: d.year.into(),
+        month: d.month.into(),
+        day: d.day.into(),
+        hour: d.hour.into(),
+        minute: d.minute.into(),
+        second: d.second.into(),
+        seconds: d.seconds,
+    };
+    alike(input, date_read(input), date::read(input).map(date));
+    let d = unsafe { raw::qz_date_read(input.as_ptr(), input.len()) };
+    let fields = [d.year, d.month, d.day, d.hour, d.minute, d.second].map(u64::from);
+    unused(input, d.number, d.place, &[&[d.seconds as u64], &fields[..]].concat());
+}
+
+fn url_agrees(input: &[u8]) {
+    let span = |s: independent::Span| Span { start: s.start, length: s.length };
+    let url = |u: url::Url| Url {
+        host: span(u.host),
+        port: u.port,
+        path: u.path.map(span),
+        query: u.query.map(span),
+    };
+    alike(input, url_read(input), url::read(input).map(url));
+    let u = unsafe { raw::qz_url_read(input.as_ptr(), input.len()) };
+    unused(input, u.number, u.place, &[u.host.start as u64, u.host.length as u64, u.port.into()]);
+    for part in [u.path, u.query] {
+        let absent = u8::from(!part.present);
+        unused(input, absent, 0, &[part.start as u64, part.length as u64]);
+        unused(input, u.number, u.place, &[part.present.into()]);
     }
+}
+
+fn products_agrees(input: &[u8]) {
+    let products =
+        |p: products::Products| Products { products: p.products, comments: p.comments, deepest: p.deepest };
+    alike(input, products_read(input), products::read(input).map(products));
+    let p = unsafe { raw::qz_products_read(input.as_ptr(), input.len()) };
+    unused(input, p.number, p.place, &[p.products, p.comments, p.deepest].map(|count| count as u64));
+}
+
+/// Two inputs, and the function of the archive that compares them.
+struct Pair<'a>(&'a [u8], &'a [u8]);
+
+impl Pair<'_> {
+    fn alike<T: Debug + PartialEq>(
+        &self,
+        answer: Result<T, Refused>,
+        expected: Result<T, independent::Refused>,
+    ) {
+        assert_eq!(answer, expected.map_err(refused), "{:?} {:?}", self.0, self.1);
+    }
+
+    /// A field without a meaning is 0, and a refusal says which input it was.
+    fn unused(&self, number: u8, place: usize, which: u8, value: u8) {
+        let right = match number {
+            0 => (place, which) == (0, 0),
+            _ => value == 0 && (which == 1 || which == 2),
+        };
+        assert!(right, "{:?} {:?}: {number} at {place} of {which}, {value}", self.0, self.1);
+    }
+
+    fn unused_of(&self, compare: unsafe extern "C" fn(*const u8, usize, *const u8, usize) -> raw::QzSame) {
+        // SAFETY: the pointers and the lengths are those of slices.
+        let s = unsafe { compare(self.0.as_ptr(), self.0.len(), self.1.as_ptr(), self.1.len()) };
+        self.unused(s.number, s.place, s.which, s.same.into());
+    }
+}
+
+fn versions_agree(first: &[u8], second: &[u8]) {
+    let pair = Pair(first, second);
+    pair.alike(version_compare(first, second), version::compare(first, second));
+    // SAFETY: the pointers and the lengths are those of slices.
+    let o = unsafe { raw::qz_version_compare(first.as_ptr(), first.len(), second.as_ptr(), second.len()) };
+    pair.unused(o.number, o.place, o.which, o.order);
+}
+
+fn languages_agree(first: &[u8], second: &[u8]) {
+    let pair = Pair(first, second);
+    pair.alike(language_equal(first, second), language::equal(first, second));
+    pair.unused_of(raw::qz_language_equal);
+}
+
+fn etags_agree(first: &[u8], second: &[u8]) {
+    let pair = Pair(first, second);
+    pair.alike(etag_strong_match(first, second), etag::strong_match(first, second));
+    pair.alike(etag_weak_match(first, second), etag::weak_match(first, second));
+    pair.unused_of(raw::qz_etag_strong_match);
+    pair.unused_of(raw::qz_etag_weak_match);
+}
+
+fn urls_agree(first: &[u8], second: &[u8]) {
+    let pair = Pair(first, second);
+    pair.alike(url_equal(first, second), url::equal(first, second));
+    pair.unused_of(raw::qz_url_equal);
 }
 
 #[test]
 fn short_strings() {
-    for kind in KINDS {
-        short(kind).iter().flat_map(|family| every(*family)).for_each(|input| agree(kind, &input));
+    for (kind, agree) in READ {
+        short(kind).iter().flat_map(|family| every(*family)).for_each(|input| agree(&input));
     }
 }
 
 #[test]
 fn every_byte_at_every_place() {
     let texts = [
-        (Kind::Version, "HTTP/12.34"),
-        (Kind::Delta, "120"),
-        (Kind::Qvalue, "0.25"),
-        (Kind::Language, "en-cockney"),
-        (Kind::EntityTag, "W/\"x\\y\""),
+        (version_agrees as fn(&[u8]), "HTTP/12.34"),
+        (delta_agrees, "120"),
+        (qvalue_agrees, "0.25"),
+        (language_agrees, "en-cockney"),
+        (etag_agrees, "W/\"x\\y\""),
+        (date_agrees, "Sun, 06 Nov 1994 08:49:37 GMT"),
+        (date_agrees, "Wednesday, 02-Jun-82 00:00:00 GMT"),
+        (date_agrees, "Sun Nov  6 08:49:37 1994"),
+        (url_agrees, "http://a.b-c:8080/~d/%7e?e=%2F?"),
+        (products_agrees, "a/1 (b (c) \\)) d"),
     ];
-    for (kind, text) in texts {
+    for (agree, text) in texts {
         for at in 0..=text.len() {
             for byte in 0..=255 {
                 let mut input = text.as_bytes().to_vec();
                 input.insert(at, byte);
-                agree(kind, &input);
+                agree(&input);
                 input.remove(at);
+                if at < input.len() {
+                    input[at] = byte;
+                    agree(&input);
+                }
                 input.truncate(at);
                 input.push(byte);
-                agree(kind, &input);
+                agree(&input);
             }
         }
     }
@@ -115,69 +224,95 @@ fn every_byte_at_every_place() {
 
 #[test]
 fn limits() {
-    for kind in KINDS {
-        at_limits(kind).iter().for_each(|input| agree(kind, input));
+    for (kind, agree) in READ {
+        at_limits(kind).iter().for_each(|input| agree(input));
     }
 }
 
 #[test]
 fn every_cut() {
     let mut rng = Rng::new(11);
-    for kind in KINDS {
+    for (kind, agree) in READ {
         for _ in 0..CUT {
             let input = valid(kind, &mut rng);
-            (0..=input.len()).for_each(|end| agree(kind, &input[..end]));
+            (0..=input.len()).for_each(|end| agree(&input[..end]));
         }
     }
 }
 
+fn random(kind: Kind, agree: fn(&[u8]), seed: u64) {
+    let mut rng = Rng::new(seed);
+    (0..RANDOM).for_each(|_| agree(&any(kind, &mut rng)));
+}
+
 #[test]
 fn random_versions() {
-    let mut rng = Rng::new(12);
-    (0..RANDOM).for_each(|_| agree(Kind::Version, &any(Kind::Version, &mut rng)));
+    random(Kind::Version, version_agrees, 12);
 }
 
 #[test]
 fn random_deltas() {
-    let mut rng = Rng::new(13);
-    (0..RANDOM).for_each(|_| agree(Kind::Delta, &any(Kind::Delta, &mut rng)));
+    random(Kind::Delta, delta_agrees, 13);
 }
 
 #[test]
 fn random_qvalues() {
-    let mut rng = Rng::new(14);
-    (0..RANDOM).for_each(|_| agree(Kind::Qvalue, &any(Kind::Qvalue, &mut rng)));
+    random(Kind::Qvalue, qvalue_agrees, 14);
 }
 
 #[test]
 fn random_languages() {
-    let mut rng = Rng::new(16);
-    (0..RANDOM).for_each(|_| agree(Kind::Language, &any(Kind::Language, &mut rng)));
+    random(Kind::Language, language_agrees, 16);
 }
 
 #[test]
 fn random_entity_tags() {
-    let mut rng = Rng::new(17);
-    (0..RANDOM).for_each(|_| agree(Kind::EntityTag, &any(Kind::EntityTag, &mut rng)));
+    random(Kind::EntityTag, etag_agrees, 17);
+}
+
+#[test]
+fn random_dates() {
+    random(Kind::Date, date_agrees, 18);
+}
+
+#[test]
+fn random_urls() {
+    random(Kind::Url, url_agrees, 19);
+}
+
+#[test]
+fn random_products() {
+    random(Kind::Products, products_agrees, 20);
 }
 
 #[test]
 fn random_pairs() {
     let mut rng = Rng::new(15);
-    for kind in COMPARED {
+    for (kind, agree) in COMPARED {
         for _ in 0..RANDOM {
             let (first, second) = pair(kind, &mut rng);
-            agree_on_pair(kind, &first, &second);
+            agree(&first, &second);
         }
     }
 }
 
 #[test]
 fn pairs_of_short_strings() {
-    for kind in COMPARED {
-        let few: Vec<_> = short(kind).iter().flat_map(|family| every(*family)).step_by(97).collect();
-        for first in &few {
-            few.iter().step_by(7).for_each(|second| agree_on_pair(kind, first, second));
+    for (kind, agree) in COMPARED {
+        let all: Vec<_> = short(kind).iter().flat_map(|family| every(*family)).collect();
+        let few = || all.iter().step_by(all.len() / FEW);
+        for first in few() {
+            few().step_by(7).for_each(|second| agree(first, second));
         }
+    }
+}
+
+/// Every two of the URLs that are a stem and a few bytes: paths with escapes, ports, an absent path, queries.
+#[test]
+fn pairs_of_short_urls() {
+    let families: [Short; 2] = [(b"http://a", b":/?80", 3), (b"http://a/", b"%2416AaFf", 3)];
+    let all: Vec<_> = families.into_iter().flat_map(every).collect();
+    for first in &all {
+        all.iter().for_each(|second| urls_agree(first, second));
     }
 }

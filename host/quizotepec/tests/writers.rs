@@ -3,20 +3,26 @@
 mod common;
 
 use common::{lend, writes, RANDOM};
-use independent::generate::{frame, numbers, Rng};
+use independent::date::{EARLIEST, LATEST, LENGTH};
+use independent::generate::{frame, instant, numbers, Rng};
 use independent::number::{ARGUMENT_OUT_OF_RANGE, BODY_TOO_LARGE, OUTPUT_TOO_SHORT};
-use independent::{chunked, qvalue, version};
-use quizotepec::{chunked_encode, qvalue_write, version_write, Refusal, Version};
+use independent::{chunked, date, qvalue, version};
+use quizotepec::{chunked_encode, date_write, qvalue_write, version_write, Refusal, Version};
 
 /// The longest version has 16 bytes, the longest qvalue 5.
 const VERSION_ROOM: usize = 20;
 const QVALUE_ROOM: usize = 8;
+const DAY_SECONDS: i64 = 86_400;
 /// How many bytes a body has at most in the test of every chunk length.
 const SHORT_BODY: usize = 24;
 
 fn version_agrees(major: u32, minor: u32, room: usize) {
     let expected = version::write(major.into(), minor.into(), room);
     writes(expected, room, |out| version_write(Version { major, minor }, out), (major, minor));
+}
+
+fn date_agrees(seconds: i64, room: usize) {
+    writes(date::write(seconds, room), room, |out| date_write(seconds, out), seconds);
 }
 
 fn frame_agrees(body: &[u8], chunk_len: usize, room: usize) {
@@ -52,6 +58,33 @@ fn every_qvalue() {
             let expected = qvalue::write(thousandths.into(), room);
             writes(expected, room, |out| qvalue_write(thousandths, out), thousandths);
         }
+    }
+}
+
+#[test]
+fn instants_at_both_ends_in_every_room() {
+    let near = |middle: i64| (-2..=2).map(move |by| middle.saturating_add(by));
+    let middles =
+        [i64::MIN, i64::MIN / 2, EARLIEST, -DAY_SECONDS, 0, DAY_SECONDS, LATEST, i64::MAX / 2, i64::MAX];
+    for seconds in middles.into_iter().flat_map(near) {
+        (0..=LENGTH + 2).for_each(|room| date_agrees(seconds, room));
+    }
+}
+
+/// Each day of the range, at a second that changes from day to day.
+#[test]
+fn every_day() {
+    let days = (EARLIEST..=LATEST).step_by(DAY_SECONDS as usize);
+    days.enumerate()
+        .for_each(|(index, start)| date_agrees(start + index as i64 * 7_919 % DAY_SECONDS, LENGTH));
+}
+
+#[test]
+fn random_instants() {
+    let mut rng = Rng::new(23);
+    for _ in 0..RANDOM {
+        let seconds = if rng.once_in(20) { rng.word() as i64 } else { instant(&mut rng) };
+        date_agrees(seconds, LENGTH - 1 + rng.below(3));
     }
 }
 

@@ -1,7 +1,9 @@
 //! Inputs at each limit of document 01, on both sides of it.
 
+use super::values::date_forms;
 use super::Kind;
 use crate::chunked::{LINE_LIMIT, TRAILER_LIMIT};
+use crate::date::{Date, DAY_NAMES};
 use crate::delta::SECONDS_LIMIT;
 use crate::media::PARAMETER_LIMIT;
 use crate::products::LEVEL_LIMIT;
@@ -29,6 +31,7 @@ pub fn at_limits(kind: Kind) -> Vec<Vec<u8>> {
     match kind {
         Kind::Version => inputs.extend(numbers(b"HTTP/", NUMBER_LIMIT, b".1")),
         Kind::Delta => inputs.extend(numbers(b"", SECONDS_LIMIT, b"")),
+        Kind::Date => inputs.extend(dates()),
         Kind::Url => inputs.extend(numbers(b"http://a:", PORT_LIMIT, b"/")),
         Kind::MediaType => inputs.extend(parameters()),
         Kind::Products => inputs.extend(levels()),
@@ -71,6 +74,25 @@ fn numbers(head: &[u8], limit: u64, tail: &[u8]) -> Vec<Vec<u8>> {
     let spelled = plain.flat_map(|digits| [digits.clone(), format!("000{digits}")]);
     let tails = [tail, b"", b"\0"];
     spelled.flat_map(|digits| tails.map(|tail| [head, digits.as_bytes(), tail].concat())).collect()
+}
+
+/// Each number of a date on both sides of its bounds, in every form and under every name of a day.
+fn dates() -> Vec<Vec<u8>> {
+    let years = [0, 1582, 1583, 1584, 1600, 1700, 1900, 1969, 1970, 1999, 2000, 2069, 2070, 2100, 9999];
+    let days =
+        [(1, 0), (1, 1), (1, 31), (1, 32), (2, 28), (2, 29), (2, 30), (4, 30), (4, 31), (12, 31), (12, 32)];
+    let times = [(0, 0, 0), (23, 59, 59), (24, 0, 0), (23, 60, 59), (23, 59, 60), (99, 99, 99)];
+    let mut inputs = Vec::new();
+    for year in years {
+        for (month, day) in days {
+            for (hour, minute, second) in times {
+                let fields = Date { year, month, day, hour, minute, second, seconds: 0 };
+                let spelled = DAY_NAMES.iter().flat_map(|name| date_forms(fields, name));
+                inputs.extend(spelled.map(String::into_bytes));
+            }
+        }
+    }
+    inputs
 }
 
 fn parameters() -> Vec<Vec<u8>> {

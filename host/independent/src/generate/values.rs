@@ -140,21 +140,22 @@ fn date(rng: &mut Rng) -> Vec<u8> {
         5 if rng.once_in(3) => fields.year = rng.below(10_000) as u16,
         _ => {}
     }
-    spell_date(fields, DAY_NAMES[name], rng)
+    let forms = date_forms(fields, DAY_NAMES[name]);
+    forms[rng.below(forms.len())].clone().into_bytes()
 }
 
-fn spell_date(fields: date::Date, name: &str, rng: &mut Rng) -> Vec<u8> {
+/// The three forms, asctime's with either spelling of the day.
+pub(super) fn date_forms(fields: date::Date, name: &str) -> [String; 4] {
     let date::Date { year, month, day, hour, minute, second, .. } = fields;
     let month = MONTH_NAMES[usize::from(month) - 1];
     let time = format!("{hour:02}:{minute:02}:{second:02}");
     let short = &name[..3];
-    let text = match rng.below(4) {
-        0 => format!("{short}, {day:02} {month} {year:04} {time} GMT"),
-        1 => format!("{name}, {day:02}-{month}-{:02} {time} GMT", year % 100),
-        2 => format!("{short} {month} {day:2} {time} {year:04}"),
-        _ => format!("{short} {month} {day:02} {time} {year:04}"),
-    };
-    text.into_bytes()
+    [
+        format!("{short}, {day:02} {month} {year:04} {time} GMT"),
+        format!("{name}, {day:02}-{month}-{:02} {time} GMT", year % 100),
+        format!("{short} {month} {day:2} {time} {year:04}"),
+        format!("{short} {month} {day:02} {time} {year:04}"),
+    ]
 }
 
 fn qvalue(rng: &mut Rng) -> Vec<u8> {
