@@ -136,6 +136,11 @@ fn part(p: raw::QzPart) -> Option<Span> {
 }
 
 /// Reads `HTTP/` digits `.` digits.
+///
+/// ```
+/// let version = quizotepec::version_read(b"HTTP/01.1").unwrap();
+/// assert_eq!((version.major, version.minor), (1, 1));
+/// ```
 pub fn version_read(value: &[u8]) -> Result<Version, Refusal> {
     // SAFETY: the pointer is valid for reads of the length, as a slice's is.
     let v = unsafe { raw::qz_version_read(value.as_ptr(), value.len()) };
@@ -143,6 +148,11 @@ pub fn version_read(value: &[u8]) -> Result<Version, Refusal> {
 }
 
 /// Reads first one version, then the other, and gives their order.
+///
+/// ```
+/// use std::cmp::Ordering;
+/// assert_eq!(quizotepec::version_compare(b"HTTP/2.4", b"HTTP/2.13"), Ok(Ordering::Less));
+/// ```
 pub fn version_compare(first: &[u8], second: &[u8]) -> Result<Ordering, Refused> {
     // SAFETY: both pointers are valid for reads of their lengths.
     let o = unsafe { raw::qz_version_compare(first.as_ptr(), first.len(), second.as_ptr(), second.len()) };
@@ -155,12 +165,25 @@ pub fn version_compare(first: &[u8], second: &[u8]) -> Result<Ordering, Refused>
 }
 
 /// Writes a version in capitals without leading zeros and gives its length.
+///
+/// ```
+/// let mut out = [b'.'; 9];
+/// let version = quizotepec::Version { major: 1, minor: 1 };
+/// assert_eq!(quizotepec::version_write(version, &mut out), Ok(8));
+/// assert_eq!(&out, b"HTTP/1.1.");
+/// ```
 pub fn version_write(version: Version, out: &mut [u8]) -> Result<usize, Refusal> {
     // SAFETY: the output is borrowed alone and valid for writes of its length.
     written(unsafe { raw::qz_version_write(version.major, version.minor, out.as_mut_ptr(), out.len()) })
 }
 
 /// Reads delta-seconds.
+///
+/// ```
+/// assert_eq!(quizotepec::delta_read(b"3600"), Ok(3600));
+/// // Above 2,147,483,647 it is refusal 2.
+/// assert_eq!(quizotepec::delta_read(b"2147483648").unwrap_err().number, 2);
+/// ```
 pub fn delta_read(value: &[u8]) -> Result<u32, Refusal> {
     // SAFETY: the pointer is valid for reads of the length.
     let n = unsafe { raw::qz_delta_read(value.as_ptr(), value.len()) };
@@ -168,6 +191,10 @@ pub fn delta_read(value: &[u8]) -> Result<u32, Refusal> {
 }
 
 /// Reads a qvalue in thousandths, 0 to 1000.
+///
+/// ```
+/// assert_eq!(quizotepec::qvalue_read(b"0.5"), Ok(500));
+/// ```
 pub fn qvalue_read(value: &[u8]) -> Result<u32, Refusal> {
     // SAFETY: the pointer is valid for reads of the length.
     let n = unsafe { raw::qz_qvalue_read(value.as_ptr(), value.len()) };
@@ -175,12 +202,23 @@ pub fn qvalue_read(value: &[u8]) -> Result<u32, Refusal> {
 }
 
 /// Writes the shortest form of a qvalue given in thousandths and gives its length.
+///
+/// ```
+/// let mut out = [b'.'; 4];
+/// assert_eq!(quizotepec::qvalue_write(500, &mut out), Ok(3));
+/// assert_eq!(&out, b"0.5.");
+/// ```
 pub fn qvalue_write(thousandths: u16, out: &mut [u8]) -> Result<usize, Refusal> {
     // SAFETY: the output is borrowed alone and valid for writes of its length.
     written(unsafe { raw::qz_qvalue_write(thousandths, out.as_mut_ptr(), out.len()) })
 }
 
 /// Reads a language tag: parts of 1 to 8 letters joined by `-`.
+///
+/// ```
+/// let tag = quizotepec::language_read(b"en-cockney").unwrap();
+/// assert_eq!((tag.parts, tag.primary), (2, 2));
+/// ```
 pub fn language_read(value: &[u8]) -> Result<LanguageTag, Refusal> {
     // SAFETY: the pointer is valid for reads of the length.
     let t = unsafe { raw::qz_language_read(value.as_ptr(), value.len()) };
@@ -188,12 +226,23 @@ pub fn language_read(value: &[u8]) -> Result<LanguageTag, Refusal> {
 }
 
 /// Reads first one language tag, then the other, and says whether they are equal, ignoring case.
+///
+/// ```
+/// assert_eq!(quizotepec::language_equal(b"en-US", b"EN-us"), Ok(true));
+/// let refused = quizotepec::language_equal(b"en", b"en-").unwrap_err();
+/// assert_eq!(refused.which, quizotepec::Which::Second);
+/// ```
 pub fn language_equal(first: &[u8], second: &[u8]) -> Result<bool, Refused> {
     // SAFETY: both pointers are valid for reads of their lengths.
     same(unsafe { raw::qz_language_equal(first.as_ptr(), first.len(), second.as_ptr(), second.len()) })
 }
 
 /// Reads an entity tag: optional `W/` in either case, then a quoted string.
+///
+/// ```
+/// let tag = quizotepec::etag_read(b"W/\"xyzzy\"").unwrap();
+/// assert_eq!((tag.weak, tag.start, tag.length), (true, 3, 5));
+/// ```
 pub fn etag_read(value: &[u8]) -> Result<EntityTag, Refusal> {
     // SAFETY: the pointer is valid for reads of the length.
     let t = unsafe { raw::qz_etag_read(value.as_ptr(), value.len()) };
@@ -201,12 +250,21 @@ pub fn etag_read(value: &[u8]) -> Result<EntityTag, Refusal> {
 }
 
 /// Reads first one entity tag, then the other; they match where neither is weak and the quoted bytes are the same.
+///
+/// ```
+/// assert_eq!(quizotepec::etag_strong_match(b"\"a\"", b"\"a\""), Ok(true));
+/// assert_eq!(quizotepec::etag_strong_match(b"W/\"a\"", b"\"a\""), Ok(false));
+/// ```
 pub fn etag_strong_match(first: &[u8], second: &[u8]) -> Result<bool, Refused> {
     // SAFETY: both pointers are valid for reads of their lengths.
     same(unsafe { raw::qz_etag_strong_match(first.as_ptr(), first.len(), second.as_ptr(), second.len()) })
 }
 
 /// Reads first one entity tag, then the other; they match where the quoted bytes are the same.
+///
+/// ```
+/// assert_eq!(quizotepec::etag_weak_match(b"W/\"a\"", b"\"a\""), Ok(true));
+/// ```
 pub fn etag_weak_match(first: &[u8], second: &[u8]) -> Result<bool, Refused> {
     // SAFETY: both pointers are valid for reads of their lengths.
     same(unsafe { raw::qz_etag_weak_match(first.as_ptr(), first.len(), second.as_ptr(), second.len()) })
@@ -293,6 +351,15 @@ pub fn products_read(value: &[u8]) -> Result<Products, Refusal> {
 }
 
 /// Reads a chunked body at the front of the input; the room is the output's length.
+///
+/// ```
+/// use quizotepec::Decoded;
+/// let mut out = [b'.'; 6];
+/// let body = b"5\r\nhello\r\n0\r\n\r\n";
+/// assert_eq!(quizotepec::chunked_decode(&body[..9], &mut out), Decoded::More);
+/// assert_eq!(quizotepec::chunked_decode(body, &mut out), Decoded::Whole { taken: 15, length: 5 });
+/// assert_eq!(&out, b"hello.");
+/// ```
 pub fn chunked_decode(input: &[u8], out: &mut [u8]) -> Decoded {
     // SAFETY: the output is borrowed alone, so the input does not overlap it; both are valid for their lengths.
     let b = unsafe { raw::qz_chunked_decode(input.as_ptr(), input.len(), out.as_mut_ptr(), out.len()) };
@@ -304,6 +371,12 @@ pub fn chunked_decode(input: &[u8], out: &mut [u8]) -> Decoded {
 }
 
 /// Writes a body in chunks of `chunk_len` bytes and what remains, and gives the length of the frame.
+///
+/// ```
+/// let mut out = [0; 25];
+/// assert_eq!(quizotepec::chunked_encode(b"hello", 2, &mut out), Ok(25));
+/// assert_eq!(&out, b"2\r\nhe\r\n2\r\nll\r\n1\r\no\r\n0\r\n\r\n");
+/// ```
 pub fn chunked_encode(body: &[u8], chunk_len: usize, out: &mut [u8]) -> Result<usize, Refusal> {
     let (from, to) = (body.as_ptr(), out.as_mut_ptr());
     // SAFETY: the output is borrowed alone, so the body does not overlap it; both are valid for their lengths.
