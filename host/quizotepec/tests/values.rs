@@ -12,8 +12,13 @@ use quizotepec::{
 };
 use std::fmt::Debug;
 
-/// The kinds that are read; each function holds both readers to one input.
-const READ: [(Kind, fn(&[u8])); 8] = [
+/// Holds both readers of a kind to one input.
+type Agree = fn(&[u8]);
+/// Holds both comparisons of a kind to two inputs.
+type AgreeOnPair = fn(&[u8], &[u8]);
+
+/// The kinds that are read.
+const READ: [(Kind, Agree); 8] = [
     (Kind::Version, version_agrees),
     (Kind::Delta, delta_agrees),
     (Kind::Qvalue, qvalue_agrees),
@@ -23,8 +28,8 @@ const READ: [(Kind, fn(&[u8])); 8] = [
     (Kind::Url, url_agrees),
     (Kind::Products, products_agrees),
 ];
-/// The kinds whose values are compared, likewise.
-const COMPARED: [(Kind, fn(&[u8], &[u8])); 4] = [
+/// The kinds whose values are compared.
+const COMPARED: [(Kind, AgreeOnPair); 4] = [
     (Kind::Version, versions_agree),
     (Kind::Language, languages_agree),
     (Kind::EntityTag, etags_agree),
@@ -191,7 +196,7 @@ fn short_strings() {
 #[test]
 fn every_byte_at_every_place() {
     let texts = [
-        (version_agrees as fn(&[u8]), "HTTP/12.34"),
+        (version_agrees as Agree, "HTTP/12.34"),
         (delta_agrees, "120"),
         (qvalue_agrees, "0.25"),
         (language_agrees, "en-cockney"),
@@ -239,7 +244,7 @@ fn every_cut() {
     }
 }
 
-fn random(kind: Kind, agree: fn(&[u8]), seed: u64) {
+fn random(kind: Kind, agree: Agree, seed: u64) {
     let mut rng = Rng::new(seed);
     (0..RANDOM).for_each(|_| agree(&any(kind, &mut rng)));
 }
