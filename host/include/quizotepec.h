@@ -180,7 +180,7 @@ QzWritten qz_date_write(int64_t seconds, uint8_t *out, size_t out_len);
 /* An http URL; the port is at most 65,535. */
 QzUrl qz_url_read(const uint8_t *s, size_t s_len);
 
-/* Reads first `a`, then `b`; `same` where they name the same page: host without case, port as a number, an absent
+/* Reads first `a`, then `b`; `same` where they name the same page: host in any case, port as a number, an absent
  * path as `/`, an escape of a letter, a digit or one of - _ . ! ~ * ' ( ) as that character. */
 QzSame qz_url_equal(const uint8_t *a, size_t a_len, const uint8_t *b, size_t b_len);
 
