@@ -54,12 +54,8 @@ fn compare(kind: &Kind) -> Ratio {
 }
 
 pub fn print() {
-    println!(
-        "Reading header values: how many times as many readings per second ours makes as the independent"
-    );
-    println!(
-        "one, which is written for plainness: it tries every alternative of a grammar. {ROUNDS} rounds."
-    );
+    println!("Header values: how many times as many readings per second ours makes as the independent");
+    println!("implementation, which is not made for speed; medians of {ROUNDS} rounds, and quartiles.");
     for kind in KINDS {
         println!("{:16} {:>26}", kind.name, compare(kind).to_string());
     }

@@ -1,7 +1,8 @@
 //! A chunked decoder in one pass, for speed: the baseline of the benchmarks.
 //!
 //! It copies each chunk as it goes, so a body that turns out not to be whole leaves bytes in the output.
-//! Its answers are those of `chunked::decode`.
+//! Its answers are those of `chunked::decode`. A table for hex digits and one comparison for a CRLF make short
+//! chunks as fast as where no limit is checked and no extension read.
 
 use crate::chunked::{LINE_LIMIT, TRAILER_LIMIT};
 use crate::number::{BODY_TOO_LARGE, LINE_TOO_LONG, MALFORMED, TRAILER_TOO_LONG};
@@ -31,6 +32,22 @@ struct Reader<'a> {
     start: usize,
     limit: usize,
     refusal: u8,
+}
+
+const CRLF: &[u8] = b"\r\n";
+const NO_DIGIT: u8 = u8::MAX;
+/// The value of each byte that is a hex digit.
+const HEX: [u8; 256] = hex_values();
+
+const fn hex_values() -> [u8; 256] {
+    let mut values = [NO_DIGIT; 256];
+    let mut value = 0;
+    while value < 16 {
+        values[b"0123456789abcdef"[value] as usize] = value as u8;
+        values[b"0123456789ABCDEF"[value] as usize] = value as u8;
+        value += 1;
+    }
+    values
 }
 
 fn malformed<T>(place: usize) -> Step<T> {
@@ -111,15 +128,21 @@ impl Reader<'_> {
         Ok(())
     }
 
+    #[inline]
     fn size(&mut self, room_left: usize) -> Step<usize> {
         let start = self.at;
-        let mut value: usize = 0;
-        while let Some(digit) = char::from(self.peek()?).to_digit(16) {
+        let mut value = 0;
+        loop {
+            let digit = HEX[usize::from(self.peek()?)];
+            if digit == NO_DIGIT {
+                break;
+            }
             self.take()?;
-            value = value.saturating_mul(16).saturating_add(digit as usize);
-            if value > room_left {
+            // The first test keeps the shift from losing bits.
+            if value > room_left >> 4 || value << 4 | usize::from(digit) > room_left {
                 return Err(Stop::Refused(Refusal::new(BODY_TOO_LARGE, self.at - 1)));
             }
+            value = value << 4 | usize::from(digit);
         }
         if self.at == start {
             return malformed(self.at);
@@ -131,14 +154,20 @@ impl Reader<'_> {
 /// The place after a CRLF that stands at `at`.
 #[inline]
 fn line_break(input: &[u8], at: usize) -> Step<usize> {
-    for (place, want) in [(at, b'\r'), (at + 1, b'\n')] {
-        match input.get(place) {
-            None => return Err(Stop::More),
-            Some(byte) if *byte != want => return malformed(place),
-            _ => {}
-        }
+    match input.get(at..at + CRLF.len()) {
+        Some(CRLF) => Ok(at + CRLF.len()),
+        _ => Err(no_line_break(input, at)),
     }
-    Ok(at + 2)
+}
+
+/// Why no CRLF stands at `at`.
+#[cold]
+fn no_line_break(input: &[u8], at: usize) -> Stop {
+    let place = if input.get(at) == Some(&CRLF[0]) { at + 1 } else { at };
+    match input.get(place) {
+        None => Stop::More,
+        Some(_) => Stop::Refused(Refusal::new(MALFORMED, place)),
+    }
 }
 
 fn chunk_line(input: &[u8], at: usize, room_left: usize) -> Step<(usize, usize)> {
