@@ -1,8 +1,7 @@
 //! A chunked decoder in one pass, for speed: the baseline of the benchmarks.
 //!
 //! It copies each chunk as it goes, so a body that turns out not to be whole leaves bytes in the output.
-//! Its answers are those of `chunked::decode`. A table for hex digits and one comparison for a CRLF make short
-//! chunks as fast as where no limit is checked and no extension read.
+//! Its answers are those of `chunked::decode`.
 
 use crate::chunked::{LINE_LIMIT, TRAILER_LIMIT};
 use crate::number::{BODY_TOO_LARGE, LINE_TOO_LONG, MALFORMED, TRAILER_TOO_LONG};
@@ -50,8 +49,8 @@ const fn hex_values() -> [u8; 256] {
     values
 }
 
-fn malformed<T>(place: usize) -> Step<T> {
-    Err(Stop::Refused(Refusal::new(MALFORMED, place)))
+fn refused<T>(number: u8, place: usize) -> Step<T> {
+    Err(Stop::Refused(Refusal::new(number, place)))
 }
 
 impl Reader<'_> {
@@ -64,7 +63,7 @@ impl Reader<'_> {
     #[inline]
     fn take(&mut self) -> Step<()> {
         if self.at - self.start >= self.limit {
-            return Err(Stop::Refused(Refusal::new(self.refusal, self.at)));
+            return refused(self.refusal, self.at);
         }
         self.at += 1;
         Ok(())
@@ -72,7 +71,7 @@ impl Reader<'_> {
 
     fn expect(&mut self, byte: u8) -> Step<()> {
         if self.peek()? != byte {
-            return malformed(self.at);
+            return refused(MALFORMED, self.at);
         }
         self.take()
     }
@@ -87,7 +86,7 @@ impl Reader<'_> {
 
     fn token(&mut self) -> Step<()> {
         match self.run(is_token_byte)? {
-            0 => malformed(self.at),
+            0 => refused(MALFORMED, self.at),
             _ => Ok(()),
         }
     }
@@ -96,13 +95,13 @@ impl Reader<'_> {
         loop {
             let byte = self.peek()?;
             if !is_text(byte) {
-                return malformed(self.at);
+                return refused(MALFORMED, self.at);
             }
             self.take()?;
             match byte {
                 b'"' => return Ok(()),
                 b'\\' if is_text(self.peek()?) && self.peek()? < 128 => self.take()?,
-                b'\\' => return malformed(self.at),
+                b'\\' => return refused(MALFORMED, self.at),
                 _ => {}
             }
         }
@@ -127,28 +126,6 @@ impl Reader<'_> {
         }
         Ok(())
     }
-
-    #[inline]
-    fn size(&mut self, room_left: usize) -> Step<usize> {
-        let start = self.at;
-        let mut value = 0;
-        loop {
-            let digit = HEX[usize::from(self.peek()?)];
-            if digit == NO_DIGIT {
-                break;
-            }
-            self.take()?;
-            // The first test keeps the shift from losing bits.
-            if value > room_left >> 4 || value << 4 | usize::from(digit) > room_left {
-                return Err(Stop::Refused(Refusal::new(BODY_TOO_LARGE, self.at - 1)));
-            }
-            value = value << 4 | usize::from(digit);
-        }
-        if self.at == start {
-            return malformed(self.at);
-        }
-        Ok(value)
-    }
 }
 
 /// The place after a CRLF that stands at `at`.
@@ -170,11 +147,40 @@ fn no_line_break(input: &[u8], at: usize) -> Stop {
     }
 }
 
-fn chunk_line(input: &[u8], at: usize, room_left: usize) -> Step<(usize, usize)> {
-    let mut line = Reader { input, at, start: at, limit: LINE_LIMIT, refusal: LINE_TOO_LONG };
-    let size = line.size(room_left)?;
-    line.extensions()?;
-    Ok((size, line_break(input, line.at)?))
+/// The value of the hex digits at `start`, and the place behind them.
+#[inline]
+fn chunk_size(input: &[u8], start: usize, room_left: usize) -> Step<(usize, usize)> {
+    let (mut at, mut value) = (start, 0);
+    loop {
+        let digit = HEX[usize::from(*input.get(at).ok_or(Stop::More)?)];
+        if digit == NO_DIGIT {
+            break;
+        }
+        if at - start >= LINE_LIMIT {
+            return refused(LINE_TOO_LONG, at);
+        }
+        // The first test keeps the shift from losing bits.
+        if value > room_left >> 4 || value << 4 | usize::from(digit) > room_left {
+            return refused(BODY_TOO_LARGE, at);
+        }
+        value = value << 4 | usize::from(digit);
+        at += 1;
+    }
+    if at == start {
+        return refused(MALFORMED, at);
+    }
+    Ok((value, at))
+}
+
+/// The size, and where the data begin.
+fn chunk_line(input: &[u8], start: usize, room_left: usize) -> Step<(usize, usize)> {
+    let (size, mut at) = chunk_size(input, start, room_left)?;
+    if input.get(at) == Some(&b';') {
+        let mut line = Reader { input, at, start, limit: LINE_LIMIT, refusal: LINE_TOO_LONG };
+        line.extensions()?;
+        at = line.at;
+    }
+    Ok((size, line_break(input, at)?))
 }
 
 fn trailer(input: &[u8], at: usize) -> Step<usize> {
