@@ -8,7 +8,7 @@ use std::hint::black_box;
 use std::time::Duration;
 
 const BODY: usize = 8 << 20;
-const ROUNDS: usize = 41;
+const ROUNDS: usize = 101;
 
 /// The longest chunk where lengths are random.
 const RANDOM_CHUNK: usize = 64;
