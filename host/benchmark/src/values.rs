@@ -30,11 +30,25 @@ macro_rules! kind {
 }
 
 /// Most samples are well-formed; the last of each kind is refused at its end.
-#[rustfmt::skip]
 const KINDS: &[Kind] = &[
-    kind!("version", quizotepec::version_read, independent::version::read, [b"HTTP/1.1", b"http/01.0", b"HTTP/12.13", b"HTTP/1."]),
-    kind!("language tag", quizotepec::language_read, independent::language::read, [b"en", b"en-US", b"x-pig-latin", b"en-"]),
-    kind!("entity tag", quizotepec::etag_read, independent::etag::read, [b"\"xyzzy\"", b"W/\"xyzzy\"", b"\"\"", b"\"xyzzy"]),
+    kind!(
+        "version",
+        quizotepec::version_read,
+        independent::version::read,
+        [b"HTTP/1.1", b"http/01.0", b"HTTP/12.13", b"HTTP/1."]
+    ),
+    kind!(
+        "language tag",
+        quizotepec::language_read,
+        independent::language::read,
+        [b"en", b"en-US", b"x-pig-latin", b"en-"]
+    ),
+    kind!(
+        "entity tag",
+        quizotepec::etag_read,
+        independent::etag::read,
+        [b"\"xyzzy\"", b"W/\"xyzzy\"", b"\"\"", b"\"xyzzy"]
+    ),
 ];
 
 /// The time of many readings of each sample.
