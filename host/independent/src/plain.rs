@@ -33,8 +33,24 @@ struct Reader<'a> {
     refusal: u8,
 }
 
-fn malformed<T>(place: usize) -> Step<T> {
-    Err(Stop::Refused(Refusal::new(MALFORMED, place)))
+const CRLF: &[u8] = b"\r\n";
+const NO_DIGIT: u8 = u8::MAX;
+/// The value of each byte that is a hex digit.
+const HEX: [u8; 256] = hex_values();
+
+const fn hex_values() -> [u8; 256] {
+    let mut values = [NO_DIGIT; 256];
+    let mut value = 0;
+    while value < 16 {
+        values[b"0123456789abcdef"[value] as usize] = value as u8;
+        values[b"0123456789ABCDEF"[value] as usize] = value as u8;
+        value += 1;
+    }
+    values
+}
+
+fn refused<T>(number: u8, place: usize) -> Step<T> {
+    Err(Stop::Refused(Refusal::new(number, place)))
 }
 
 impl Reader<'_> {
@@ -47,7 +63,7 @@ impl Reader<'_> {
     #[inline]
     fn take(&mut self) -> Step<()> {
         if self.at - self.start >= self.limit {
-            return Err(Stop::Refused(Refusal::new(self.refusal, self.at)));
+            return refused(self.refusal, self.at);
         }
         self.at += 1;
         Ok(())
@@ -55,7 +71,7 @@ impl Reader<'_> {
 
     fn expect(&mut self, byte: u8) -> Step<()> {
         if self.peek()? != byte {
-            return malformed(self.at);
+            return refused(MALFORMED, self.at);
         }
         self.take()
     }
@@ -70,7 +86,7 @@ impl Reader<'_> {
 
     fn token(&mut self) -> Step<()> {
         match self.run(is_token_byte)? {
-            0 => malformed(self.at),
+            0 => refused(MALFORMED, self.at),
             _ => Ok(()),
         }
     }
@@ -79,13 +95,13 @@ impl Reader<'_> {
         loop {
             let byte = self.peek()?;
             if !is_text(byte) {
-                return malformed(self.at);
+                return refused(MALFORMED, self.at);
             }
             self.take()?;
             match byte {
                 b'"' => return Ok(()),
                 b'\\' if is_text(self.peek()?) && self.peek()? < 128 => self.take()?,
-                b'\\' => return malformed(self.at),
+                b'\\' => return refused(MALFORMED, self.at),
                 _ => {}
             }
         }
@@ -110,42 +126,61 @@ impl Reader<'_> {
         }
         Ok(())
     }
-
-    fn size(&mut self, room_left: usize) -> Step<usize> {
-        let start = self.at;
-        let mut value: usize = 0;
-        while let Some(digit) = char::from(self.peek()?).to_digit(16) {
-            self.take()?;
-            value = value.saturating_mul(16).saturating_add(digit as usize);
-            if value > room_left {
-                return Err(Stop::Refused(Refusal::new(BODY_TOO_LARGE, self.at - 1)));
-            }
-        }
-        if self.at == start {
-            return malformed(self.at);
-        }
-        Ok(value)
-    }
 }
 
 /// The place after a CRLF that stands at `at`.
 #[inline]
 fn line_break(input: &[u8], at: usize) -> Step<usize> {
-    for (place, want) in [(at, b'\r'), (at + 1, b'\n')] {
-        match input.get(place) {
-            None => return Err(Stop::More),
-            Some(byte) if *byte != want => return malformed(place),
-            _ => {}
-        }
+    match input.get(at..at + CRLF.len()) {
+        Some(CRLF) => Ok(at + CRLF.len()),
+        _ => Err(no_line_break(input, at)),
     }
-    Ok(at + 2)
 }
 
-fn chunk_line(input: &[u8], at: usize, room_left: usize) -> Step<(usize, usize)> {
-    let mut line = Reader { input, at, start: at, limit: LINE_LIMIT, refusal: LINE_TOO_LONG };
-    let size = line.size(room_left)?;
-    line.extensions()?;
-    Ok((size, line_break(input, line.at)?))
+/// Why no CRLF stands at `at`.
+#[cold]
+fn no_line_break(input: &[u8], at: usize) -> Stop {
+    let place = if input.get(at) == Some(&CRLF[0]) { at + 1 } else { at };
+    match input.get(place) {
+        None => Stop::More,
+        Some(_) => Stop::Refused(Refusal::new(MALFORMED, place)),
+    }
+}
+
+/// The value of the hex digits at `start`, and the place behind them.
+#[inline]
+fn chunk_size(input: &[u8], start: usize, room_left: usize) -> Step<(usize, usize)> {
+    let (mut at, mut value) = (start, 0);
+    loop {
+        let digit = HEX[usize::from(*input.get(at).ok_or(Stop::More)?)];
+        if digit == NO_DIGIT {
+            break;
+        }
+        if at - start >= LINE_LIMIT {
+            return refused(LINE_TOO_LONG, at);
+        }
+        // The first test keeps the shift from losing bits.
+        if value > room_left >> 4 || value << 4 | usize::from(digit) > room_left {
+            return refused(BODY_TOO_LARGE, at);
+        }
+        value = value << 4 | usize::from(digit);
+        at += 1;
+    }
+    if at == start {
+        return refused(MALFORMED, at);
+    }
+    Ok((value, at))
+}
+
+/// The size, and where the data begin.
+fn chunk_line(input: &[u8], start: usize, room_left: usize) -> Step<(usize, usize)> {
+    let (size, mut at) = chunk_size(input, start, room_left)?;
+    if input.get(at) == Some(&b';') {
+        let mut line = Reader { input, at, start, limit: LINE_LIMIT, refusal: LINE_TOO_LONG };
+        line.extensions()?;
+        at = line.at;
+    }
+    Ok((size, line_break(input, at)?))
 }
 
 fn trailer(input: &[u8], at: usize) -> Step<usize> {

@@ -1,0 +1,102 @@
+//! The chunked reader against a plain one-pass decoder and a bare copy of the same data.
+
+use crate::measure::{timed, times_as_long, Ratio};
+use independent::generate::Rng;
+use independent::plain::{plain_decode, Answer};
+use quizotepec::{chunked_decode, Decoded};
+use std::hint::black_box;
+use std::time::Duration;
+
+const BODY: usize = 8 << 20;
+const ROUNDS: usize = 101;
+
+/// The longest chunk where lengths are random.
+const RANDOM_CHUNK: usize = 64;
+
+/// What the output holds before each call.
+#[derive(Clone, Copy)]
+enum Output {
+    /// What the call before wrote.
+    Kept,
+    /// Zeros, written outside the timing.
+    Cleared,
+}
+
+fn frame(body: &[u8], mut chunk_len: impl FnMut() -> usize) -> Vec<u8> {
+    let mut frame = Vec::new();
+    let mut rest = body;
+    while !rest.is_empty() {
+        let (chunk, behind) = rest.split_at(chunk_len().min(rest.len()));
+        frame.extend_from_slice(format!("{:X}\r\n", chunk.len()).as_bytes());
+        frame.extend_from_slice(chunk);
+        frame.extend_from_slice(b"\r\n");
+        rest = behind;
+    }
+    frame.extend_from_slice(b"0\r\n\r\n");
+    frame
+}
+
+/// Lends the output to `run`.
+fn lent<A>(output: Output, out: &mut [u8], run: impl FnOnce(&mut [u8]) -> A) -> (Duration, A) {
+    if let Output::Cleared = output {
+        black_box(&mut *out).fill(0);
+    }
+    timed(|| run(black_box(out)))
+}
+
+/// Ours against the plain decoder, and ours against a bare copy.
+fn compare(body: &[u8], frame: &[u8], output: Output) -> [Ratio; 2] {
+    let (taken, length) = (frame.len(), body.len());
+    let mut outputs = [vec![0; length], vec![0; length], vec![0; length]];
+    let [first, second, third] = &mut outputs;
+    let mut ours = || {
+        let (time, answer) = lent(output, first, |out| chunked_decode(black_box(frame), out));
+        assert_eq!(answer, Decoded::Whole { taken, length });
+        time
+    };
+    let mut plain = || {
+        let (time, answer) = lent(output, second, |out| plain_decode(black_box(frame), out));
+        assert_eq!(answer, Answer::Whole { taken, length });
+        time
+    };
+    let mut copy = || lent(output, third, |out| out.copy_from_slice(black_box(body))).0;
+    let ratios = times_as_long(ROUNDS, &mut [&mut ours, &mut plain, &mut copy]);
+    assert!(outputs.iter().all(|out| out == body), "the data differ");
+    [ratios[0], ratios[1]]
+}
+
+pub fn print() {
+    let mut rng = Rng::new(1);
+    let body: Vec<u8> = (0..BODY).map(|_| rng.byte()).collect();
+    let frames = [
+        ("16", frame(&body, || 16)),
+        ("4,096", frame(&body, || 4_096)),
+        ("1 to 64, random", frame(&body, || 1 + rng.below(RANDOM_CHUNK))),
+    ];
+    println!("Decoding 8 MiB: how many times as long ours takes; medians of {ROUNDS} rounds, and quartiles.");
+    println!(
+        "The output was written to before; each call finds it as it was, or cleared outside the timing."
+    );
+    let (plain, copy) = ("against plain Rust", "against a bare copy");
+    println!("{:16} {:8} {plain:>26} {copy:>26}", "chunk length", "output");
+    for (name, frame) in &frames {
+        for (words, output) in [("kept", Output::Kept), ("cleared", Output::Cleared)] {
+            let [plain, copy] = compare(&body, frame, output);
+            println!("{name:16} {words:8} {:>26} {:>26}", plain.to_string(), copy.to_string());
+        }
+    }
+}
+
+#[cfg(test)]
+mod tests {
+    use super::*;
+
+    #[test]
+    fn frames_are_those_of_the_writer() {
+        let body = b"hello, world";
+        for chunk_len in [1, 5, 12, 100] {
+            let expected = independent::chunked::encode(body, chunk_len, usize::MAX);
+            assert_eq!(Ok(frame(body, || chunk_len)), expected);
+        }
+    }
+}

@@ -1,0 +1,76 @@
+//! Readers of header values against the independent ones.
+
+use crate::measure::{timed, times_as_long, Ratio};
+use std::hint::black_box;
+use std::time::Duration;
+
+const ROUNDS: usize = 21;
+/// How often a round reads each sample.
+const READINGS: usize = 200;
+
+/// Reads a value and says whether it was accepted.
+type Read = fn(&[u8]) -> bool;
+
+struct Kind {
+    name: &'static str,
+    samples: &'static [&'static [u8]],
+    ours: Read,
+    theirs: Read,
+}
+
+macro_rules! kind {
+    ($name:literal, $ours:path, $theirs:path, [$($sample:literal),+ $(,)?]) => {
+        Kind {
+            name: $name,
+            samples: &[$($sample),+],
+            ours: |value| black_box($ours(value)).is_ok(),
+            theirs: |value| black_box($theirs(value)).is_ok(),
+        }
+    };
+}
+
+/// Most samples are well-formed; the last of each kind is refused at its end.
+const KINDS: &[Kind] = &[
+    kind!(
+        "version",
+        quizotepec::version_read,
+        independent::version::read,
+        [b"HTTP/1.1", b"http/01.0", b"HTTP/12.13", b"HTTP/1."]
+    ),
+    kind!(
+        "language tag",
+        quizotepec::language_read,
+        independent::language::read,
+        [b"en", b"en-US", b"x-pig-latin", b"en-"]
+    ),
+    kind!(
+        "entity tag",
+        quizotepec::etag_read,
+        independent::etag::read,
+        [b"\"xyzzy\"", b"W/\"xyzzy\"", b"\"\"", b"\"xyzzy"]
+    ),
+];
+
+/// The time of many readings of each sample.
+fn round(read: Read, samples: &[&[u8]]) -> Duration {
+    let read_all = || samples.iter().filter(|sample| read(black_box(sample))).count();
+    timed(|| (0..READINGS).map(|_| read_all()).sum::<usize>()).0
+}
+
+/// How many times as many readings per second ours makes.
+fn compare(kind: &Kind) -> Ratio {
+    for sample in kind.samples {
+        assert_eq!((kind.ours)(sample), (kind.theirs)(sample), "{} {sample:?}", kind.name);
+    }
+    let mut ours = || round(kind.ours, kind.samples);
+    let mut theirs = || round(kind.theirs, kind.samples);
+    times_as_long(ROUNDS, &mut [&mut theirs, &mut ours])[0]
+}
+
+pub fn print() {
+    println!("Header values: how many times as many readings per second ours makes as the independent");
+    println!("implementation, which is not made for speed; medians of {ROUNDS} rounds, and quartiles.");
+    for kind in KINDS {
+        println!("{:16} {:>26}", kind.name, compare(kind).to_string());
+    }
+}

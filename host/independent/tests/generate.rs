@@ -1,0 +1,46 @@
+//! The generated inputs reach each refusal that document 01 gives to their kind, and no other.
+
+use independent::chunked::{decode, Decoded};
+use independent::generate::{any, at_limits, Kind, Rng};
+use std::collections::BTreeSet;
+
+const ROUNDS: usize = 20_000;
+const ROOMS: usize = 60;
+
+/// The refusal's number, and 0 where there is none.
+fn number(kind: Kind, input: &[u8], room: usize) -> u8 {
+    let refusal = match kind {
+        Kind::Chunked => match decode(input, room) {
+            Decoded::Refused(refusal) => Some(refusal),
+            _ => None,
+        },
+        _ => kind.refusal(input),
+    };
+    refusal.map_or(0, |refusal| refusal.number)
+}
+
+fn reaches(kind: Kind, expected: &[u8]) {
+    let mut rng = Rng::new(7);
+    let random = (0..ROUNDS).map(|_| any(kind, &mut rng));
+    let inputs: Vec<_> = random.chain(at_limits(kind)).collect();
+    let numbers: BTreeSet<u8> = inputs.iter().map(|input| number(kind, input, rng.below(ROOMS))).collect();
+    assert_eq!(numbers, expected.iter().copied().collect(), "{kind:?}");
+}
+
+#[test]
+fn header_values() {
+    reaches(Kind::Version, &[0, 1, 2, 13]);
+    reaches(Kind::Date, &[0, 1, 3, 4, 13]);
+    reaches(Kind::Delta, &[0, 1, 2, 13]);
+    reaches(Kind::Qvalue, &[0, 1, 13]);
+    reaches(Kind::Language, &[0, 1, 13]);
+    reaches(Kind::EntityTag, &[0, 1, 13]);
+    reaches(Kind::MediaType, &[0, 1, 10, 11, 13]);
+    reaches(Kind::Products, &[0, 1, 12, 13]);
+    reaches(Kind::Url, &[0, 1, 2, 13]);
+}
+
+#[test]
+fn chunked_bodies() {
+    reaches(Kind::Chunked, &[0, 1, 5, 6, 7]);
+}

@@ -1,0 +1,563 @@
+/* Feeds every function of quizotepec.h arbitrary bytes, lengths and numbers, and checks of each answer what holds of
+ * any answer. Usage: robust SECONDS SEED [ROUNDS]; it stops at the bound that comes first.
+ *
+ * The address sanitizer instruments this program and not the archive, so it would not see the archive read one byte
+ * past a heap block. So each lent block begins or ends at a page that may not be touched, and such a read or write
+ * is a fault, which the sanitizer reports.
+ */
+#define _DEFAULT_SOURCE /* MAP_ANONYMOUS */
+#include "quizotepec.h"
+
+#include <inttypes.h>
+#include <stdio.h>
+#include <stdlib.h>
+#include <string.h>
+#include <sys/mman.h>
+#include <time.h>
+#include <unistd.h>
+
+/* The limits that document 01 gives, and the numbers of its table of refusals. */
+enum { LINE_LIMIT = 1024, VALUE_LIMIT = 8192, VERSION_LIMIT = 65535, NUMBERS = 14 };
+#define SECONDS_LIMIT 2147483647u
+#define WRITER_LIMIT ((size_t)1 << 30)
+
+enum {
+    LONGEST = 9000,     /* of the drawn inputs */
+    SHORT = 40,         /* most inputs and outputs are below it */
+    MIDDLE = 300,       /* many are below it */
+    NEAR = 16,          /* how far from a limit the lengths near it are */
+    GROWTH = 6,         /* the writer makes at most so many bytes of one, and some more for the last chunk */
+    ARENA = 1 << 16,    /* bytes between two guards; a multiple of the page size, and above GROWTH times LONGEST */
+    MARGIN = 64,        /* bytes around an output that are checked too */
+    HUGE_ONCE_IN = 256,
+    CLOCK_ROUNDS = 256, /* rounds between two looks at the clock */
+    GRACE = 20,         /* seconds over time at which a call that does not return ends the program */
+    SHOWN = 64          /* bytes of an input that a failure shows */
+};
+
+typedef struct Block {
+    uint8_t *bytes;
+    size_t length;
+} Block;
+
+/* What a call may use: two inputs, an output, two numbers. */
+typedef struct Call {
+    Block a;
+    Block b;
+    Block out;
+    uint64_t numbers[2];
+} Call;
+
+/* What every answer says. */
+typedef struct Answer {
+    unsigned number;
+    size_t place;
+    size_t within; /* the length of the input that the place counts in; of the longest, where none was refused */
+    size_t front;  /* how many bytes of the output were written */
+    bool sound;    /* the other fields are in their ranges, and 0 where they have no meaning */
+} Answer;
+
+/* ---- answers: for each struct what must hold of it */
+
+static Answer answer(unsigned number, size_t place, size_t within, bool sound)
+{
+    Answer x = {number, place, within, 0, sound};
+    return x;
+}
+
+static Answer of_QzVersion(QzVersion r, const Call *c)
+{
+    bool kept = r.major <= VERSION_LIMIT && r.minor <= VERSION_LIMIT;
+    return answer(r.number, r.place, c->a.length, r.number == 0 ? kept : r.major == 0 && r.minor == 0);
+}
+
+static Answer of_QzNumber(QzNumber r, const Call *c)
+{
+    return answer(r.number, r.place, c->a.length, r.number == 0 ? r.value <= SECONDS_LIMIT : r.value == 0);
+}
+
+static Answer of_QzLanguage(QzLanguage r, const Call *c)
+{
+    bool counted = r.parts > 0 && r.primary > 0 && r.primary <= 8 && r.primary + 2 * (r.parts - 1) <= c->a.length;
+    return answer(r.number, r.place, c->a.length, r.number == 0 ? counted : r.parts == 0 && r.primary == 0);
+}
+
+static bool inside(size_t start, size_t length, size_t whole)
+{
+    return start <= whole && length <= whole - start;
+}
+
+static Answer of_QzTag(QzTag r, const Call *c)
+{
+    bool quoted = r.start == (r.weak ? 3u : 1u) && inside(r.start, r.length, c->a.length) &&
+                  c->a.bytes[r.start - 1] == '"' && c->a.bytes[c->a.length - 1] == '"';
+    return answer(r.number, r.place, c->a.length, r.number == 0 ? quoted : !r.weak && r.start == 0 && r.length == 0);
+}
+
+/* A comparison: the second input is refused only where the first was read. */
+static Answer compared(unsigned number, size_t place, unsigned which, bool sound, const Call *c)
+{
+    size_t longest = c->a.length > c->b.length ? c->a.length : c->b.length;
+    if (number == 0) {
+        return answer(number, place, longest, sound && which == 0);
+    }
+    if (which == 1) {
+        return answer(number, place, c->a.length, sound);
+    }
+    return answer(number, place, c->b.length, sound && which == 2 && c->a.length <= VALUE_LIMIT);
+}
+
+static Answer of_QzOrder(QzOrder r, const Call *c)
+{
+    return compared(r.number, r.place, r.which, r.order <= (r.number == 0 ? QZ_GREATER : 0), c);
+}
+
+static Answer of_QzSame(QzSame r, const Call *c)
+{
+    return compared(r.number, r.place, r.which, r.number == 0 || !r.same, c);
+}
+
+static Answer of_QzWritten(QzWritten r, const Call *c)
+{
+    Answer x = answer(r.number, r.place, c->a.length, r.place == 0 && (r.number == 0 ? r.length > 0 : r.length == 0));
+    x.front = r.length;
+    return x;
+}
+
+static Answer of_QzBody(QzBody r, const Call *c)
+{
+    bool whole = r.state == QZ_WHOLE && r.number == 0 && r.taken <= c->a.length && r.length < r.taken;
+    bool other = (r.state == QZ_MORE ? r.number == 0 : r.state == QZ_REFUSED && r.number != 0) && r.taken == 0;
+    Answer x = answer(r.number, r.place, c->a.length, whole || (other && r.length == 0));
+    /* A malformed body has a byte that leaves no continuation: one that only ends too early is "more". */
+    x.sound = x.sound && (r.number != QZ_MALFORMED || r.place < c->a.length);
+    x.front = r.length;
+    return x;
+}
+
+/* ---- samples: the generator changes, cuts and grows them */
+
+static const char *const versions[] = {"HTTP/1.1", "http/01.0", "HTTP/65535.65535", "HTTP/65536.0", NULL};
+static const char *const deltas[] = {"0", "120", "2147483647", "2147483648", NULL};
+static const char *const qvalues[] = {"0", "0.", "0.25", "0.999", "1.000", NULL};
+static const char *const languages[] = {"en", "en-US", "x-pig-latin", "abcdefgh-i", NULL};
+static const char *const etags[] = {"\"xyzzy\"", "W/\"xyzzy\"", "w/\"\"", "\"a\\\"b\xff\t\"", NULL};
+static const char *const bodies[] = {"0\r\n\r\n",
+                                     "5\r\nhello\r\n0\r\n\r\n",
+                                     "1\r\na\r\n2;x\r\nbc\r\n0\r\n\r\n",
+                                     "00A;a=b;c=\"d\\\"\"\r\n0\r\n\r\n0\r\n\r\n\r\n000;e\r\nA: b\r\n\r\n",
+                                     "0\r\nExpires: Sun, 06 Nov 1994 08:49:37 GMT\r\nB:\t\xff\r\n\r\n",
+                                     "ffffffffffffffff1\r\n",
+                                     NULL};
+static const char *const texts[] = {"hello", "0\r\n\r\n", NULL};
+
+/* ---- the entry points, one line each */
+
+#define A c->a.bytes, c->a.length
+#define B c->b.bytes, c->b.length
+#define OUT c->out.bytes, c->out.length
+#define NO(n) (1u << (n))
+
+/* ROW(function, its arguments, its answer, samples of its inputs, the numbers that it may give) */
+#define ENTRIES(ROW)                                                                                                 \
+    ROW(qz_version_read, (A), QzVersion, versions, NO(1) | NO(2) | NO(13))                                           \
+    ROW(qz_version_compare, (A, B), QzOrder, versions, NO(1) | NO(2) | NO(13))                                       \
+    ROW(qz_version_write, ((uint32_t)c->numbers[0], (uint32_t)c->numbers[1], OUT), QzWritten, texts, NO(8) | NO(9))  \
+    ROW(qz_delta_read, (A), QzNumber, deltas, NO(1) | NO(2) | NO(13))                                                \
+    ROW(qz_qvalue_read, (A), QzNumber, qvalues, NO(1) | NO(13))                                                      \
+    ROW(qz_qvalue_write, ((uint16_t)c->numbers[0], OUT), QzWritten, texts, NO(8) | NO(9))                            \
+    ROW(qz_language_read, (A), QzLanguage, languages, NO(1) | NO(13))                                                \
+    ROW(qz_language_equal, (A, B), QzSame, languages, NO(1) | NO(13))                                                \
+    ROW(qz_etag_read, (A), QzTag, etags, NO(1) | NO(13))                                                             \
+    ROW(qz_etag_strong_match, (A, B), QzSame, etags, NO(1) | NO(13))                                                 \
+    ROW(qz_etag_weak_match, (A, B), QzSame, etags, NO(1) | NO(13))                                                   \
+    ROW(qz_chunked_decode, (A, OUT), QzBody, bodies, NO(1) | NO(5) | NO(6) | NO(7))                                  \
+    ROW(qz_chunked_encode, (A, (size_t)c->numbers[0], OUT), QzWritten, texts, NO(7) | NO(8) | NO(9))
+
+#define CALL(function, arguments, type, samples, numbers)                                                            \
+    static Answer call_##function(const Call *c)                                                                     \
+    {                                                                                                                \
+        return of_##type(function arguments, c);                                                                     \
+    }
+#define ENTRY(function, arguments, type, samples, numbers) {#function, call_##function, samples, NO(0) | (numbers)},
+
+ENTRIES(CALL)
+
+typedef struct Entry {
+    const char *name;
+    Answer (*call)(const Call *c);
+    const char *const *samples;
+    unsigned numbers;
+} Entry;
+
+static const Entry entries[] = {ENTRIES(ENTRY)};
+enum { COUNT = sizeof entries / sizeof entries[0] };
+
+/* ---- the generator: xorshift64* */
+
+static uint64_t state;
+
+static uint64_t word(void)
+{
+    state ^= state >> 12;
+    state ^= state << 25;
+    state ^= state >> 27;
+    return state * UINT64_C(2685821657736338717);
+}
+
+static size_t below(size_t bound)
+{
+    return (size_t)((word() >> 11) % bound);
+}
+
+/* Bytes that some rule names. */
+static const char notable[] = "\"\\()/;:=,-.?%&+@ \t\r\n\x7f\x80\xff" "0159afFgzAZHW*[]{}<>#_~!'";
+
+static uint8_t byte_of(const char *text)
+{
+    return (uint8_t)text[below(strlen(text))];
+}
+
+static const char *sample_of(const char *const *samples)
+{
+    size_t count = 0;
+    while (samples[count] != NULL) {
+        count++;
+    }
+    return samples[below(count)];
+}
+
+static size_t draw_length(void)
+{
+    static const size_t limits[] = {LINE_LIMIT, LINE_LIMIT + 1, VALUE_LIMIT, VALUE_LIMIT + 1};
+    size_t limit = limits[below(4)];
+    switch (below(12)) {
+    case 0:
+        return limit;
+    case 1:
+        return limit - NEAR + below(2 * NEAR);
+    case 2:
+        return below(LONGEST + 1);
+    case 3:
+    case 4:
+        return below(MIDDLE);
+    default:
+        return below(SHORT);
+    }
+}
+
+static uint64_t draw_number(void)
+{
+    static const uint64_t edges[] = {1,          1000,           VERSION_LIMIT, WRITER_LIMIT, SECONDS_LIMIT,
+                                     UINT32_MAX, UINT64_MAX / 2, UINT64_MAX};
+    switch (below(4)) {
+    case 0:
+        return edges[below(sizeof edges / sizeof edges[0])] - 1 + below(3);
+    case 1:
+        return word();
+    case 2:
+        return word() >> below(64);
+    default:
+        return below(SHORT);
+    }
+}
+
+/* A sample with some of its bytes repeated in place, `length` bytes in all. */
+static size_t grow(const char *sample, size_t length, uint8_t *draft)
+{
+    size_t size = strlen(sample);
+    size_t at = below(size);
+    size_t run = below(2) == 0 ? 1 : 1 + below(size - at);
+    size_t more = length > size ? length - size : 0;
+    size_t i;
+    memcpy(draft, sample, at);
+    for (i = 0; i < more; i++) {
+        draft[at + i] = (uint8_t)sample[at + i % run];
+    }
+    memcpy(draft + at + more, sample + at, size - at);
+    return size + more;
+}
+
+static void damage(uint8_t *draft, size_t length)
+{
+    size_t left = length == 0 || below(2) == 0 ? 0 : 1 + below(3);
+    for (; left > 0; left--) {
+        draft[below(length)] = below(4) == 0 ? (uint8_t)word() : byte_of(notable);
+    }
+}
+
+/* Arbitrary bytes, bytes of an alphabet, or a sample that is cut, whole or grown. */
+static size_t draw_bytes(const char *const *samples, uint8_t *draft)
+{
+    const char *sample = sample_of(samples);
+    const char *alphabet = below(2) == 0 ? notable : sample;
+    size_t length = draw_length();
+    size_t kind = below(8);
+    size_t i;
+    if (kind >= 3) {
+        length = grow(sample, kind < 6 ? 0 : length, draft);
+        damage(draft, length);
+        return kind == 3 ? below(length + 1) : length;
+    }
+    for (i = 0; i < length; i++) {
+        draft[i] = kind == 0 ? (uint8_t)word() : byte_of(alphabet);
+    }
+    return length;
+}
+
+/* ---- lent blocks */
+
+static uint8_t *arenas[3];
+static uint8_t drafts[2][ARENA]; /* what the inputs hold */
+static uint8_t untouched[ARENA]; /* what the output's arena holds before each call */
+static uint8_t *huge;            /* more bytes than the writer takes, all 0, only for reading */
+
+static void *map(size_t length, int protection)
+{
+    void *start = mmap(NULL, length, protection, MAP_PRIVATE | MAP_ANONYMOUS | MAP_NORESERVE, -1, 0);
+    if (start == MAP_FAILED) {
+        perror("mmap");
+        exit(2);
+    }
+    return start;
+}
+
+static void map_arenas(void)
+{
+    size_t i;
+    for (i = 0; i < 3; i++) {
+        uint8_t *guard = map(3 * (size_t)ARENA, PROT_NONE);
+        arenas[i] = guard + ARENA;
+        if (mprotect(arenas[i], ARENA, PROT_READ | PROT_WRITE) != 0) {
+            perror("mprotect");
+            exit(2);
+        }
+    }
+    for (i = 0; i < ARENA; i++) {
+        untouched[i] = (uint8_t)word();
+    }
+    memcpy(arenas[2], untouched, ARENA);
+    huge = map(WRITER_LIMIT + 2, PROT_READ);
+}
+
+/* At the end of the arena or at its start. */
+static Block lend(uint8_t *arena, size_t length)
+{
+    Block block = {below(3) == 0 ? arena : arena + ARENA - length, length};
+    return block;
+}
+
+static Block lend_input(size_t which, size_t length)
+{
+    Block block = lend(arenas[which], length);
+    memcpy(block.bytes, drafts[which], length);
+    return block;
+}
+
+static size_t draw_room(size_t input)
+{
+    size_t kind = below(4);
+    if (kind == 0 || input > ARENA / GROWTH - MARGIN) {
+        return below(MIDDLE);
+    }
+    if (kind == 1) {
+        return input < NEAR ? below(NEAR) : input - NEAR + below(2 * NEAR);
+    }
+    return kind == 2 ? below(SHORT) : GROWTH * input + below(SHORT);
+}
+
+static void draw_call(const Entry *e, Call *c)
+{
+    size_t length = draw_bytes(e->samples, drafts[0]);
+    c->a = lend_input(0, length);
+    if (below(2) == 0) {
+        /* The same bytes but perhaps for the case of a letter. */
+        memcpy(drafts[1], drafts[0], length);
+        drafts[1][below(length + 1)] ^= below(2) == 0 ? 0 : 'a' ^ 'A';
+    } else {
+        length = draw_bytes(e->samples, drafts[1]);
+    }
+    c->b = lend_input(1, length);
+    if (below(HUGE_ONCE_IN) == 0) {
+        c->a.bytes = huge;
+        c->a.length = WRITER_LIMIT + below(3);
+    }
+    c->out = lend(arenas[2], draw_room(c->a.length));
+    c->numbers[0] = draw_number();
+    c->numbers[1] = draw_number();
+}
+
+/* ---- checks */
+
+/* The place that the number's row of the table of refusals names. */
+static bool place_holds(const Answer *x)
+{
+    switch (x->number) {
+    case 0:
+    case 3:
+    case 4:
+    case QZ_OUTPUT_TOO_SHORT:
+    case QZ_OUT_OF_RANGE:
+        return x->place == 0;
+    case QZ_MALFORMED:
+        return x->place <= x->within;
+    case QZ_VALUE_TOO_LONG:
+        return x->place == VALUE_LIMIT;
+    default:
+        return x->place < x->within;
+    }
+}
+
+static bool input_kept(const Block *input, const uint8_t *draft)
+{
+    return input->bytes == huge || memcmp(input->bytes, draft, input->length) == 0;
+}
+
+/* Only the written front of the output has changed; it is then put back. */
+static bool output_kept(const Block *out, size_t front)
+{
+    size_t start = (size_t)(out->bytes - arenas[2]);
+    size_t end = start + out->length;
+    size_t from = start < MARGIN ? 0 : start - MARGIN;
+    size_t to = ARENA - end < MARGIN ? ARENA : end + MARGIN;
+    bool before = memcmp(arenas[2] + from, untouched + from, start - from) == 0;
+    bool behind = memcmp(out->bytes + front, untouched + start + front, to - start - front) == 0;
+    memcpy(out->bytes, untouched + start, front);
+    return before && behind;
+}
+
+/* What is wrong with the answer, or null. */
+static const char *fault(const Entry *e, const Call *c, const Answer *x)
+{
+    if (x->number >= NUMBERS || (e->numbers & NO(x->number)) == 0) {
+        return "a number that the function does not give";
+    }
+    if (!place_holds(x)) {
+        return "a place that the number does not have";
+    }
+    if ((e->numbers & NO(QZ_VALUE_TOO_LONG)) != 0 && (x->number == QZ_VALUE_TOO_LONG) != (x->within > VALUE_LIMIT)) {
+        return "the limit of a header value";
+    }
+    if (!x->sound) {
+        return "a field out of its range";
+    }
+    if (x->front > c->out.length || !output_kept(&c->out, x->front)) {
+        return "the bytes of the output, or around it";
+    }
+    if (!input_kept(&c->a, drafts[0]) || !input_kept(&c->b, drafts[1])) {
+        return "a changed input";
+    }
+    return NULL;
+}
+
+static void show(const char *name, const Block *block)
+{
+    size_t i;
+    fprintf(stderr, "%s: %zu bytes:", name, block->length);
+    for (i = 0; i < block->length && i < SHOWN; i++) {
+        fprintf(stderr, " %02x", (unsigned)block->bytes[i]);
+    }
+    fprintf(stderr, "\n");
+}
+
+/* ---- the loop */
+
+static uint64_t seed;
+static uint64_t round_now;
+static Call call_now;
+static uint64_t calls[COUNT][NUMBERS];
+
+static void show_call(void)
+{
+    fprintf(stderr, "seed %" PRIu64 ", round %" PRIu64 ", %s\n", seed, round_now, entries[round_now % COUNT].name);
+    fprintf(stderr, "numbers given: %" PRIu64 " and %" PRIu64 "\n", call_now.numbers[0], call_now.numbers[1]);
+    show("first input", &call_now.a);
+    show("second input", &call_now.b);
+    fprintf(stderr, "output: %zu bytes\n", call_now.out.length);
+}
+
+/* The sanitizer calls it before its report. */
+void __asan_on_error(void);
+
+void __asan_on_error(void)
+{
+    show_call();
+}
+
+static double now(void)
+{
+    struct timespec t;
+    clock_gettime(CLOCK_MONOTONIC, &t);
+    return (double)t.tv_sec + (double)t.tv_nsec / 1e9;
+}
+
+/* One call of one entry point; false where a check failed. */
+static bool try_entry(size_t i)
+{
+    Answer x;
+    const char *wrong;
+    draw_call(&entries[i], &call_now);
+    x = entries[i].call(&call_now);
+    wrong = fault(&entries[i], &call_now, &x);
+    if (wrong != NULL) {
+        fprintf(stderr, "%s: %s\n", entries[i].name, wrong);
+        fprintf(stderr, "number %u, place %zu, %zu bytes written\n", x.number, x.place, x.front);
+        show_call();
+        return false;
+    }
+    calls[i][x.number]++;
+    return true;
+}
+
+static bool run(double seconds, uint64_t rounds)
+{
+    double end = now() + seconds;
+    for (round_now = 0; round_now < rounds; round_now++) {
+        if (round_now % CLOCK_ROUNDS == 0 && now() >= end) {
+            return true;
+        }
+        if (!try_entry(round_now % COUNT)) {
+            return false;
+        }
+    }
+    return true;
+}
+
+static void print_counts(const Entry *e, const uint64_t *numbers)
+{
+    uint64_t all = 0;
+    unsigned n;
+    for (n = 0; n < NUMBERS; n++) {
+        all += numbers[n];
+    }
+    printf("%s: %" PRIu64 " calls;", e->name, all);
+    for (n = 0; n < NUMBERS; n++) {
+        if ((e->numbers & NO(n)) != 0) {
+            printf(" %u: %" PRIu64, n, numbers[n]);
+        }
+    }
+    printf("\n");
+}
+
+int main(int argc, char **argv)
+{
+    unsigned long seconds = argc > 2 ? strtoul(argv[1], NULL, 10) : 0;
+    uint64_t rounds = argc > 3 ? strtoull(argv[3], NULL, 10) : UINT64_MAX;
+    size_t i;
+    if (argc < 3 || argc > 4 || seconds == 0 || rounds == 0) {
+        fprintf(stderr, "usage: robust SECONDS SEED [ROUNDS], each bound above 0\n");
+        return 2;
+    }
+    seed = strtoull(argv[2], NULL, 10);
+    state = (2 * seed + 1) * UINT64_C(0x9E3779B97F4A7C15);
+    map_arenas();
+    alarm((unsigned)seconds + GRACE);
+    if (!run((double)seconds, rounds)) {
+        return 1;
+    }
+    for (i = 0; i < COUNT; i++) {
+        print_counts(&entries[i], calls[i]);
+    }
+    printf("ok: %" PRIu64 " calls of %d functions, seed %" PRIu64 "\n", round_now, (int)COUNT, seed);
+    return 0;
+}
