@@ -17,8 +17,10 @@
 #include <unistd.h>
 
 /* The limits that document 01 gives, and the numbers of its table of refusals. */
-enum { LINE_LIMIT = 1024, VALUE_LIMIT = 8192, VERSION_LIMIT = 65535, NUMBERS = 14 };
+enum { LINE_LIMIT = 1024, VALUE_LIMIT = 8192, VERSION_LIMIT = 65535, LEVEL_LIMIT = 8, NUMBERS = 14 };
 #define SECONDS_LIMIT 2147483647u
+#define EARLIEST INT64_C(-12212553600)
+#define LATEST INT64_C(253402300799)
 #define WRITER_LIMIT ((size_t)1 << 30)
 
 enum {
@@ -94,6 +96,49 @@ static Answer of_QzTag(QzTag r, const Call *c)
     return answer(r.number, r.place, c->a.length, r.number == 0 ? quoted : !r.weak && r.start == 0 && r.length == 0);
 }
 
+static bool is_date(QzDate r)
+{
+    int64_t time = r.hour * INT64_C(3600) + r.minute * INT64_C(60) + r.second;
+    return r.year >= 1583 && r.year <= 9999 && r.month >= 1 && r.month <= 12 && r.day >= 1 && r.day <= 31 &&
+           r.hour < 24 && r.minute < 60 && r.second < 60 && r.seconds >= EARLIEST && r.seconds <= LATEST &&
+           (r.seconds - time) % 86400 == 0;
+}
+
+static Answer of_QzDate(QzDate r, const Call *c)
+{
+    bool none = r.seconds == 0 && (r.year | r.month | r.day | r.hour | r.minute | r.second) == 0;
+    return answer(r.number, r.place, c->a.length, r.number == 0 ? is_date(r) : none);
+}
+
+/* A part that begins at `from` or later, or is absent. */
+static bool is_part(QzPart part, size_t from, const Call *c)
+{
+    bool none = part.start == 0 && part.length == 0;
+    return part.present ? part.start >= from && inside(part.start, part.length, c->a.length) : none;
+}
+
+static bool is_url(QzUrl r, const Call *c)
+{
+    size_t path = r.host.start + r.host.length;
+    return r.host.start == strlen("http://") && r.host.length > 0 && is_part(r.path, path, c) &&
+           (!r.path.present || c->a.bytes[r.path.start] == '/') &&
+           is_part(r.query, r.path.start + r.path.length + 1, c) && (r.path.present || !r.query.present);
+}
+
+static Answer of_QzUrl(QzUrl r, const Call *c)
+{
+    bool none = r.host.start == 0 && r.host.length == 0 && r.port == 0 && !r.path.present && !r.query.present &&
+                is_part(r.path, 0, c) && is_part(r.query, 0, c);
+    return answer(r.number, r.place, c->a.length, r.number == 0 ? is_url(r, c) : none);
+}
+
+static Answer of_QzProducts(QzProducts r, const Call *c)
+{
+    size_t count = r.products + r.comments;
+    bool counted = count > 0 && count <= c->a.length && r.deepest <= LEVEL_LIMIT && (r.deepest > 0) == (r.comments > 0);
+    return answer(r.number, r.place, c->a.length, r.number == 0 ? counted : count == 0 && r.deepest == 0);
+}
+
 /* A comparison: the second input is refused only where the first was read. */
 static Answer compared(unsigned number, size_t place, unsigned which, bool sound, const Call *c)
 {
@@ -142,6 +187,19 @@ static const char *const deltas[] = {"0", "120", "2147483647", "2147483648", NUL
 static const char *const qvalues[] = {"0", "0.", "0.25", "0.999", "1.000", NULL};
 static const char *const languages[] = {"en", "en-US", "x-pig-latin", "abcdefgh-i", NULL};
 static const char *const etags[] = {"\"xyzzy\"", "W/\"xyzzy\"", "w/\"\"", "\"a\\\"b\xff\t\"", NULL};
+static const char *const dates[] = {"Sun, 06 Nov 1994 08:49:37 GMT",
+                                    "Sunday, 06-Nov-94 08:49:37 GMT",
+                                    "Sun Nov  6 08:49:37 1994",
+                                    "Wed, 31 Dec 1969 23:59:59 GMT",
+                                    "Tue, 29 Feb 2000 00:00:00 GMT",
+                                    "Fri, 31 Dec 9999 23:59:59 GMT",
+                                    "Mon, 29 Feb 1900 24:60:60 GMT",
+                                    "Mon, 06 Nov 1994 08:49:37 GMT",
+                                    NULL};
+static const char *const urls[] = {"http://abc.com:80/~smith/home.html", "HTTP://ABC.com:/%7esmith/home.html",
+                                   "http://a.b:65536", "http://a/b;c=%2F?d&e?f", NULL};
+static const char *const products[] = {"CERN-LineMode/2.15 libwww/2.17b3", "a (b (c\\)) d)\t(\xff)",
+                                       "((((((((x))))))))", NULL};
 static const char *const bodies[] = {"0\r\n\r\n",
                                      "5\r\nhello\r\n0\r\n\r\n",
                                      "1\r\na\r\n2;x\r\nbc\r\n0\r\n\r\n",
@@ -171,6 +229,11 @@ static const char *const texts[] = {"hello", "0\r\n\r\n", NULL};
     ROW(qz_etag_read, (A), QzTag, etags, NO(1) | NO(13))                                                             \
     ROW(qz_etag_strong_match, (A, B), QzSame, etags, NO(1) | NO(13))                                                 \
     ROW(qz_etag_weak_match, (A, B), QzSame, etags, NO(1) | NO(13))                                                   \
+    ROW(qz_date_read, (A), QzDate, dates, NO(1) | NO(3) | NO(4) | NO(13))                                            \
+    ROW(qz_date_write, ((int64_t)c->numbers[0], OUT), QzWritten, texts, NO(8) | NO(9))                               \
+    ROW(qz_url_read, (A), QzUrl, urls, NO(1) | NO(2) | NO(13))                                                       \
+    ROW(qz_url_equal, (A, B), QzSame, urls, NO(1) | NO(2) | NO(13))                                                  \
+    ROW(qz_products_read, (A), QzProducts, products, NO(1) | NO(12) | NO(13))                                        \
     ROW(qz_chunked_decode, (A, OUT), QzBody, bodies, NO(1) | NO(5) | NO(6) | NO(7))                                  \
     ROW(qz_chunked_encode, (A, (size_t)c->numbers[0], OUT), QzWritten, texts, NO(7) | NO(8) | NO(9))
 
@@ -248,8 +311,16 @@ static size_t draw_length(void)
 
 static uint64_t draw_number(void)
 {
-    static const uint64_t edges[] = {1,          1000,           VERSION_LIMIT, WRITER_LIMIT, SECONDS_LIMIT,
-                                     UINT32_MAX, UINT64_MAX / 2, UINT64_MAX};
+    static const uint64_t edges[] = {1,
+                                     1000,
+                                     VERSION_LIMIT,
+                                     WRITER_LIMIT,
+                                     SECONDS_LIMIT,
+                                     UINT32_MAX,
+                                     (uint64_t)EARLIEST,
+                                     (uint64_t)LATEST,
+                                     UINT64_MAX / 2,
+                                     UINT64_MAX};
     switch (below(4)) {
     case 0:
         return edges[below(sizeof edges / sizeof edges[0])] - 1 + below(3);
@@ -394,8 +465,8 @@ static bool place_holds(const Answer *x)
 {
     switch (x->number) {
     case 0:
-    case 3:
-    case 4:
+    case QZ_NO_SUCH_DATE:
+    case QZ_WRONG_DAY_NAME:
     case QZ_OUTPUT_TOO_SHORT:
     case QZ_OUT_OF_RANGE:
         return x->place == 0;

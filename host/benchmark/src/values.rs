@@ -49,6 +49,34 @@ const KINDS: &[Kind] = &[
         independent::etag::read,
         [b"\"xyzzy\"", b"W/\"xyzzy\"", b"\"\"", b"\"xyzzy"]
     ),
+    kind!(
+        "date",
+        quizotepec::date_read,
+        independent::date::read,
+        [
+            b"Sun, 06 Nov 1994 08:49:37 GMT",
+            b"Sunday, 06-Nov-94 08:49:37 GMT",
+            b"Sun Nov  6 08:49:37 1994",
+            b"Sun, 06 Nov 1994 08:49:37 "
+        ]
+    ),
+    kind!(
+        "URL",
+        quizotepec::url_read,
+        independent::url::read,
+        [
+            b"http://abc.com:80/~smith/home.html",
+            b"http://ABC.com:/%7esmith/home.html",
+            b"http://abc.com",
+            b"http://abc.com/%7"
+        ]
+    ),
+    kind!(
+        "products",
+        quizotepec::products_read,
+        independent::products::read,
+        [b"CERN-LineMode/2.15 libwww/2.17b3", b"Apache/0.8.4 (Unix (BSD))", b"a", b"a (b"]
+    ),
 ];
 
 /// The time of many readings of each sample.
