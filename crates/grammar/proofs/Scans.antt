@@ -199,14 +199,18 @@ module _ {L A : Type 0} (r : Rules L A) (s : List ℕ) where
   same-end : (g h : Grammar L) (i : ℕ) → length s ≤ i → nullable g ≡ nullable h → ends g i ≡ ends h i → from r s g i ≡ from r s h i
   same-end g h i at n e = rw (drop-of-length-le s at, n, e)
 
+  -- the same where a byte stands
+  pub same-first : (cs : List (Part L)) (g h : Grammar L) (i : ℕ) → i < length s → deriv g i (getD s i 0) ≡ deriv h i (getD s i 0)
+      → from r s (ahead cs g) i ≡ from r s (ahead cs h) i
+  same-first cs g h i at e =
+      same-byte (ahead cs g) (ahead cs h) i at (ahead-deriv cs g i (getD s i 0) ∙ ap (ahead cs) e ∙ sym (ahead-deriv cs h i (getD s i 0)))
+
   pub same-judge : (cs : List (Part L)) (g h : Grammar L) (i : ℕ) → (i < length s → deriv g i (getD s i 0) ≡ deriv h i (getD s i 0))
       → nullable g ≡ nullable h → ends g i ≡ ends h i → from r s (ahead cs g) i ≡ from r s (ahead cs h) i
   same-judge cs g h i d n e = go (ltb i (length s)) refl
     where
       go : (x : Bool) → ltb i (length s) ≡ x → from r s (ahead cs g) i ≡ from r s (ahead cs h) i
-      go true f =
-          same-byte (ahead cs g) (ahead cs h) i (ltb-true i (length s) f)
-          (ahead-deriv cs g i (getD s i 0) ∙ ap (ahead cs) (d (ltb-true i (length s) f)) ∙ sym (ahead-deriv cs h i (getD s i 0)))
+      go true f = let at = ltb-true i (length s) f in same-first cs g h i at (d at)
       go false f =
           same-end (ahead cs g) (ahead cs h) i (ltb-false i (length s) f) (ahead-nullable cs g ∙ n ∙ sym (ahead-nullable cs h))
           (ahead-ends cs g i ∙ ap (ahead cs) e ∙ sym (ahead-ends cs h i))

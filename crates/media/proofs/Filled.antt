@@ -1,0 +1,74 @@
+-- The table that is filled, and the whole answer.
+use Prim.Native.Nat.{ℕ, zero, suc, _+_, _≤_, _<_}
+use native.Mathlib.Omega.{arith}
+use mathlib.Core.Path.{_≡_, refl, sym, ap, ap₂, subst, _∙_}
+use mathlib.Core.List.{List, [], _∷_, _++_, append-nil}
+use lib.ListN.{length, take, set}
+use Rattle.grammar.specs.Grammar.{Part}
+use Rattle.grammar.specs.Reading.{Verdict, value, refused}
+use Rattle.grammar.specs.Judge.{header}
+use Rattle.media.specs.declared.MediaType.{MediaType}
+use Rattle.media.specs.declared.Parameter.{Parameter}
+use Rattle.media.specs.declared.Outcome.the-variants as O
+use Rattle.media.specs.declared.Reading.{Reading}
+use Rattle.media.specs.Grammar.{Name, entries, kind, Media, media, rules, parameter-limit}
+use Rattle.media.specs.Reading.{padded, filled, table-of, verdict, Answered}
+use Rattle.media.specs.Scan.{counted, Before, Found, Read}
+use Rattle.media.proofs.Scan.{counted-in, no-more}
+
+padded-take : (n : ℕ) (ps : List Parameter) → length ps ≤ n → take (length ps) (padded n ps) ≡ ps
+padded-take n [] h = refl
+padded-take zero (p ∷ ps) h = absurd (omega arith)
+padded-take (suc n) (p ∷ ps) h = ap (λ (qs : List Parameter). p ∷ qs) (padded-take n ps (omega arith))
+
+padded-set : (n : ℕ) (ps : List Parameter) (p : Parameter) → length ps < n → set (padded n ps) (length ps) p ≡ padded n (ps ++ p ∷ [])
+padded-set zero ps p h = absurd (omega arith)
+padded-set (suc n) [] p h = refl
+padded-set (suc n) (q ∷ ps) p h = ap (λ (qs : List Parameter). q ∷ qs) (padded-set n ps p (omega arith))
+
+-- the parameters before the place i are the first entries of the table t, and no others are used
+pub record Filling (s : List ℕ) (m : MediaType) (t : List Parameter) (i : ℕ) : Type 0 where
+  pub table : List Parameter
+  pub found : Found s m table i
+  pub is : t ≡ filled table
+
+module _ (s : List ℕ) (m : MediaType) (t : List Parameter) (i : ℕ) (w : Filling s m t i) where
+  entries-are : take (m .count) t ≡ w .table
+  entries-are =
+      ap₂ take (sym (counted-in s m (w .table) i (w .found .before))) (w .is) ∙ padded-take parameter-limit (w .table) (w .found .before .few)
+
+  pub filling-found : Found s m (take (m .count) t) i
+  filling-found = subst (λ (ps : List Parameter). Found s m ps i) (sym entries-are) (w .found)
+
+  module _ (p : Parameter) (e : ℕ) (r : Read s m (take (m .count) t) i p e) where
+    room : length (w .table) < parameter-limit
+    room = subst (λ (ps : List Parameter). length ps < parameter-limit) entries-are (r .room)
+
+    pub filling-few : m .count < parameter-limit
+    filling-few = omega (arith, room, counted-in s m (w .table) i (w .found .before))
+
+    pub filling-next : Filling s (counted m (m .count + 1)) (set t (m .count) p) e
+    filling-next = record {
+      table = w .table ++ p ∷ [];
+      found = subst (λ (ps : List Parameter). Found s (counted m (m .count + 1)) (ps ++ p ∷ []) e) entries-are (r .found);
+      is = ap₂ (λ (u : List Parameter) (n : ℕ). set u n p) (w .is) (sym (counted-in s m (w .table) i (w .found .before)))
+          ∙ padded-set parameter-limit (w .table) p room;
+    }
+
+  -- the text ends there
+  others-are : entries (w .found .before .others) ≡ w .table
+  others-are =
+      ap entries (sym (append-nil (w .found .before .others))) ∙ w .found .before .extends [] ∙ append-nil (w .table)
+
+  names-are : kind (w .found .before .first) (w .found .before .second) (length (entries (w .found .before .others))) ≡ m
+  names-are = ap (λ (ps : List Parameter). kind (w .found .before .first) (w .found .before .second) (length ps)) others-are ∙ w .found .before .kinds
+
+  pub filled-answer : length s ≤ i → Answered s (record { outcome = O.Read m; parameters = t })
+  filled-answer h =
+      let e : header rules s ≡ value (record { names = m; table = w .table }) =
+      no-more s m (w .table) i (w .found) h ∙ ap₂ (λ (n : MediaType) (ps : List Parameter). value (record { names = n; table = ps })) names-are others-are in
+      (ap (λ (ps : List Parameter). value (record { names = m; table = ps })) entries-are ∙ sym e, w .is ∙ sym (ap table-of e))
+
+pub refused-answer : (s : List ℕ) (r : Reading) (n p : ℕ) → r ≡ record { outcome = O.Refused (record { number = n; place = p }); parameters = filled [] }
+    → header rules s ≡ refused n p → Answered s r
+refused-answer s r n p d e = (ap verdict d ∙ sym e, ap (λ (x : Reading). x .parameters) d ∙ sym (ap table-of e))

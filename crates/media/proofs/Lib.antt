@@ -1,0 +1,11 @@
+pub mod Limits
+pub mod Scan
+pub mod Filled
+pub mod Plain
+pub mod Tables
+pub mod Compared
+pub mod Places
+pub mod Agreeing
+pub mod Effect
+pub mod Demands
+pub mod EqualExamples

@@ -1,0 +1,6 @@
+pub mod Grammar
+pub mod Meaning
+pub mod Charset
+pub mod Reading
+pub mod Places
+pub mod Scan

@@ -1,0 +1,88 @@
+-- What a media type means, and when two are equal: RFC 2616 3.7 as document 01 states it.
+use Prim.Native.Nat.{ℕ}
+use mathlib.Core.Path.{_≡_}
+use mathlib.Core.Bool.{Bool, true, false, cond, _&&_, _||_}
+use mathlib.Core.List.{List, [], _∷_}
+use lib.Dec.{eqb}
+use Rattle.grammar.specs.Grammar.{Part}
+use Rattle.grammar.specs.Reading.{Rules}
+use Rattle.octets.specs.Case.{alike}
+use Rattle.octets.specs.Same.{same?}
+use Rattle.media.specs.Grammar.{Name, quoted?, valued}
+
+-- c h a r s e t
+abbrev pub charset-name : List ℕ
+charset-name = 99 ∷ 104 ∷ 97 ∷ 114 ∷ 115 ∷ 101 ∷ 116 ∷ []
+
+-- between quotes `\` and a byte is that byte
+abbrev pub unquoted : List ℕ → List ℕ
+unquoted [] = []
+unquoted (b ∷ []) = b ∷ []
+unquoted (b ∷ c ∷ s) = cond (eqb b 92) (c ∷ unquoted s) (b ∷ unquoted (c ∷ s))
+
+-- what a value stands for
+abbrev pub plain : (in-quotes : Bool) → List ℕ → List ℕ
+plain true s = unquoted s
+plain false s = s
+
+pub record Setting : Type 0 where
+  pub name : List ℕ
+  pub value : List ℕ
+
+pub record Meaning : Type 0 where
+  pub type : List ℕ
+  pub subtype : List ℕ
+  pub settings : List Setting
+
+abbrev pub settings : List (Part Name) → List Setting
+settings [] = []
+settings (a ∷ []) = []
+settings (a ∷ v ∷ ps) = record { name = a .text; value = plain (quoted? (v .label)) (v .text) } ∷ settings ps
+
+abbrev pub meaning : List (Part Name) → Meaning
+meaning [] = record { type = []; subtype = []; settings = [] }
+meaning (t ∷ []) = record { type = []; subtype = []; settings = [] }
+meaning (t ∷ u ∷ ps) = record { type = t .text; subtype = u .text; settings = settings ps }
+
+-- media types read for what they mean
+abbrev pub meanings : Rules Name Meaning
+meanings = valued meaning
+
+-- ## Equality
+
+-- two texts, letter case ignored or not
+abbrev pub same-text : (ignoring-case : Bool) → List ℕ → List ℕ → Bool
+same-text true v w = alike v w
+same-text false v w = same? v w
+
+-- "names ignore case, values are compared after unquoting, the value of `charset` ignoring case"
+abbrev pub same-setting : Setting → Setting → Bool
+same-setting p q = alike (p .name) (q .name) && same-text (alike (p .name) charset-name) (p .value) (q .value)
+
+-- one of the settings is that one
+abbrev pub one-of : Setting → List Setting → Bool
+one-of p [] = false
+one-of p (q ∷ qs) = same-setting p q || one-of p qs
+
+abbrev pub all-of : List Setting → List Setting → Bool
+all-of [] qs = true
+all-of (p ∷ ps) qs = one-of p qs && all-of ps qs
+
+-- "Two types are equal when type, subtype and the set of parameters agree"
+abbrev pub same-set : List Setting → List Setting → Bool
+same-set ps qs = all-of ps qs && all-of qs ps
+
+abbrev pub same-meaning : Meaning → Meaning → Bool
+same-meaning m n = (alike (m .type) (n .type) && alike (m .subtype) (n .subtype)) && same-set (m .settings) (n .settings)
+
+-- ## For the theorems
+
+-- type, subtype and the set of parameters agree: a parameter is one of the first just where it is one of the second
+pub record Agree (m n : Meaning) : Type 0 where
+  pub types : alike (m .type) (n .type) ≡ true
+  pub subtypes : alike (m .subtype) (n .subtype) ≡ true
+  pub sets : (p : Setting) → one-of p (m .settings) ≡ one-of p (n .settings)
+
+-- the parameter `charset` with that value
+abbrev pub charset-is : List ℕ → Setting
+charset-is v = record { name = charset-name; value = v }
