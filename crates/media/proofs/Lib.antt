@@ -8,4 +8,5 @@ pub mod Places
 pub mod Agreeing
 pub mod Effect
 pub mod Demands
+pub mod Examples
 pub mod EqualExamples
