@@ -32,26 +32,26 @@ pub record Filling (s : List ℕ) (m : MediaType) (t : List Parameter) (i : ℕ)
   pub found : Found s m table i
   pub is : t ≡ filled table
 
-module _ (s : List ℕ) (m : MediaType) (t : List Parameter) (i : ℕ) (w : Filling s m t i) where
+module _ {s : List ℕ} {m : MediaType} {t : List Parameter} {i : ℕ} (w : Filling s m t i) where
   entries-are : take (m .count) t ≡ w .table
   entries-are =
-      ap₂ take (sym (counted-in s m (w .table) i (w .found .before))) (w .is) ∙ padded-take parameter-limit (w .table) (w .found .before .few)
+      ap₂ take (sym (counted-in (w .found .before))) (w .is) ∙ padded-take parameter-limit (w .table) (w .found .before .few)
 
   pub filling-found : Found s m (take (m .count) t) i
   filling-found = subst (λ (ps : List Parameter). Found s m ps i) (sym entries-are) (w .found)
 
-  module _ (p : Parameter) (e : ℕ) (r : Read s m (take (m .count) t) i p e) where
+  module _ {p : Parameter} {e : ℕ} (r : Read s m (take (m .count) t) i p e) where
     room : length (w .table) < parameter-limit
     room = subst (λ (ps : List Parameter). length ps < parameter-limit) entries-are (r .room)
 
     pub filling-few : m .count < parameter-limit
-    filling-few = omega (arith, room, counted-in s m (w .table) i (w .found .before))
+    filling-few = omega (arith, room, counted-in (w .found .before))
 
     pub filling-next : Filling s (counted m (m .count + 1)) (set t (m .count) p) e
     filling-next = record {
       table = w .table ++ p ∷ [];
       found = subst (λ (ps : List Parameter). Found s (counted m (m .count + 1)) (ps ++ p ∷ []) e) entries-are (r .found);
-      is = ap₂ (λ (u : List Parameter) (n : ℕ). set u n p) (w .is) (sym (counted-in s m (w .table) i (w .found .before)))
+      is = ap₂ (λ (u : List Parameter) (n : ℕ). set u n p) (w .is) (sym (counted-in (w .found .before)))
           ∙ padded-set parameter-limit (w .table) p room;
     }
 
@@ -66,9 +66,10 @@ module _ (s : List ℕ) (m : MediaType) (t : List Parameter) (i : ℕ) (w : Fill
   pub filled-answer : length s ≤ i → Answered s (record { outcome = O.Read m; parameters = t })
   filled-answer h =
       let e : header rules s ≡ value (record { names = m; table = w .table }) =
-      no-more s m (w .table) i (w .found) h ∙ ap₂ (λ (n : MediaType) (ps : List Parameter). value (record { names = n; table = ps })) names-are others-are in
+      no-more (w .found) h ∙ ap₂ (λ (n : MediaType) (ps : List Parameter). value (record { names = n; table = ps })) names-are others-are in
       (ap (λ (ps : List Parameter). value (record { names = m; table = ps })) entries-are ∙ sym e, w .is ∙ sym (ap table-of e))
 
-pub refused-answer : (s : List ℕ) (r : Reading) (n p : ℕ) → r ≡ record { outcome = O.Refused (record { number = n; place = p }); parameters = filled [] }
+pub refused-answer : (s : List ℕ) {r : Reading} {n p : ℕ}
+    → r ≡ record { outcome = O.Refused (record { number = n; place = p }); parameters = filled [] }
     → header rules s ≡ refused n p → Answered s r
-refused-answer s r n p d e = (ap verdict d ∙ sym e, ap (λ (x : Reading). x .parameters) d ∙ sym (ap table-of e))
+refused-answer s d e = (ap verdict d ∙ sym e, ap (λ (x : Reading). x .parameters) d ∙ sym (ap table-of e))

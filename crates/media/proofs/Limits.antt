@@ -37,7 +37,8 @@ attributes-append (c ∷ ps) qs = go (attribute? (c .label)) (attributes-append 
     go false e = e
 
 pub attributes-with : (ps : List (Part Name)) (i : ℕ) (t : List ℕ)
-    → attributes (ps ++ record { label = attribute; start = i; text = t } ∷ []) ≡ attributes ps ++ record { label = attribute; start = i; text = t } ∷ []
+    → attributes (ps ++ record { label = attribute; start = i; text = t } ∷ [])
+    ≡ attributes ps ++ record { label = attribute; start = i; text = t } ∷ []
 attributes-with ps i t = attributes-append ps (record { label = attribute; start = i; text = t } ∷ [])
 
 pub attributes-without : (ps : List (Part Name)) (c : Part Name) → attribute? (c .label) ≡ false → attributes (ps ++ c ∷ []) ≡ attributes ps
@@ -63,7 +64,8 @@ names-length s (p ∷ ps) = ap suc (names-length s ps)
 
 repeats-snoc : (k : ℕ) (before : List (List ℕ)) (cs : List (Part Name)) (a : Part Name)
     → repeats k before (cs ++ a ∷ []) ≡ (repeats k before cs || (eqb (past (a .start) (a .text)) k && among (a .text) (before ++ texts cs)))
-repeats-snoc k before [] a = or-false _ ∙ ap (λ (ts : List (List ℕ)). eqb (past (a .start) (a .text)) k && among (a .text) ts) (sym (append-nil before))
+repeats-snoc k before [] a =
+    or-false _ ∙ ap (λ (ts : List (List ℕ)). eqb (past (a .start) (a .text)) k && among (a .text) ts) (sym (append-nil before))
   where
     or-false : (x : Bool) → (x || false) ≡ x
     or-false true = refl

@@ -17,7 +17,8 @@ use Rattle.grammar.specs.Scans.{slice, from}
 use Rattle.grammar.proofs.Loop.{header-short}
 use Rattle.grammar.proofs.Pieces.{slice-length}
 use Rattle.grammar.proofs.Repeats.{may-end}
-use Rattle.grammar.proofs.Scans.{same-first, goes-on, breaks-off, stops-at, ends-early, part-plus, part-plus-none, part-plus-breaks, first-is, first-not, first-none}
+use Rattle.grammar.proofs.Scans.{same-first, goes-on, breaks-off, stops-at, ends-early}
+use Rattle.grammar.proofs.Scans.{part-plus, part-plus-none, part-plus-breaks, first-is, first-not, first-none}
 use Rattle.grammar.proofs.Skips.{skip-run}
 use Rattle.octets.specs.Bytes.{token?, blank?}
 use Rattle.octets.specs.Classes.{TOKEN, BLANK}
@@ -29,11 +30,13 @@ use Rattle.media.specs.declared.MediaType.{MediaType}
 use Rattle.media.specs.declared.Parameter.{Parameter}
 use Rattle.media.specs.declared.Step.{Step}
 use Rattle.media.specs.declared.Step.the-variants.{Passed, Stopped}
-use Rattle.media.specs.Grammar.{Name, type, subtype, attribute, value, quoted, SLASH, SEMICOLON, EQUALS, token, blanks, argument, parameters, media-type, attributes}
+use Rattle.media.specs.Grammar.{Name, type, subtype, attribute, value, quoted, SLASH}
+use Rattle.media.specs.Grammar.{SEMICOLON, EQUALS, token, blanks, argument, parameters, media-type, attributes}
 use Rattle.media.specs.Grammar.{attribute?, quoted?, among, repeats, limit, parameter-limit, entry, entries, kind, media, rules}
 use Rattle.media.specs.Places.{part-at, names-at, Placed, PlacedParameter, PlacedTable}
 use Rattle.media.specs.Scan.{texts, counted, Before, parts, Found, NameAt, Attribute, Read, StepAt}
-use Rattle.media.proofs.Limits.{limit-crowded, limit-kept, attributes-with, attributes-without, limit-without, texts-append, texts-length, names-length, repeats-elsewhere, repeats-behind}
+use Rattle.media.proofs.Limits.{limit-crowded, limit-kept, attributes-with, attributes-without, limit-without}
+use Rattle.media.proofs.Limits.{texts-append, texts-length, names-length, repeats-elsewhere, repeats-behind}
 
 -- ## Bytes that tell what comes next
 
@@ -136,7 +139,8 @@ module _ (s : List ℕ) (short : length s ≤ 8192) where
   pub type-none : run-end token? s 0 ≡ 0 → header rules s ≡ refused 1 0
   type-none e =
       header-short rules s short
-      ∙ part-plus-none rules s [] type TOKEN behind-type refl refl behind-type-apart 0 (run-end token? s 0) (run-is token? s 0 (omega arith)) (omega (arith, e))
+      ∙ part-plus-none rules s [] type TOKEN behind-type refl refl behind-type-apart 0 (run-end token? s 0) (run-is token? s 0 (omega arith))
+      (omega (arith, e))
 
   module _ (e : ℕ) (d : e ≡ run-end token? s 0) (some-type : e ≡ 0 → ⊥) where
     abbrev type-part : Part Name
@@ -145,7 +149,8 @@ module _ (s : List ℕ) (short : length s ≤ 8192) where
     type-reads : header rules s ≡ from rules s (ahead (type-part ∷ []) behind-type) e
     type-reads =
         header-short rules s short
-        ∙ part-plus rules s [] type TOKEN behind-type refl refl behind-type-apart 0 e (rw d (run-is token? s 0 (omega arith))) (omega arith) (λ n x y. refl)
+        ∙ part-plus rules s [] type TOKEN behind-type refl refl behind-type-apart 0 e (rw d (run-is token? s 0 (omega arith))) (omega arith)
+        (λ n x y. refl)
 
     pub type-cut-off : length s ≤ e → header rules s ≡ refused 1 e
     type-cut-off h = type-reads ∙ first-none rules s (type-part ∷ []) SLASH (part subtype token ⨾ parameters) refl e h
@@ -200,7 +205,12 @@ module _ (s : List ℕ) (short : length s ≤ 8192) where
 
 -- ## A parameter
 
-module _ (s : List ℕ) where
+-- a step from e is one from an earlier place
+pub steps-on : (s : List ℕ) (m : MediaType) (ps : List Parameter) (i e : ℕ) (r : Step) → i ≤ e → StepAt s m ps e r → StepAt s m ps i r
+steps-on s m ps i e (Passed p f) a w = record { found = w .found; room = w .room; forward = omega (arith, w .forward) }
+steps-on s m ps i e (Stopped x) a w = w
+
+module _ {s : List ℕ} where
   attribute-count : {m : MediaType} {ps : List Parameter} {i : ℕ} (w : Before s m ps i) → length (attributes (parts s w)) ≡ length ps
   attribute-count {ps = ps} w = sym (texts-length (attributes (parts s w))) ∙ ap length (w .names) ∙ names-length s ps
 
@@ -224,20 +234,15 @@ module _ (s : List ℕ) where
   }
 
   -- the count of the parameters, and their places as a table gives them
-  pub counted-in : (m : MediaType) (ps : List Parameter) (i : ℕ) → Before s m ps i → length ps ≡ m .count
-  counted-in m ps i w = ap (λ (n : MediaType). n .count) (w .kinds)
+  pub counted-in : {m : MediaType} {ps : List Parameter} {i : ℕ} → Before s m ps i → length ps ≡ m .count
+  counted-in w = ap (λ (n : MediaType). n .count) (w .kinds)
 
   pub table-placed : (m : MediaType) (t : List Parameter) (i : ℕ) → Before s m (take (m .count) t) i → PlacedTable s (m .count) t
-  table-placed m t i w = record { full = counted-in m (take (m .count) t) i w; each = w .placed }
-
-  -- a step from e is one from an earlier place
-  pub steps-on : (m : MediaType) (ps : List Parameter) (i e : ℕ) (r : Step) → i ≤ e → StepAt s m ps e r → StepAt s m ps i r
-  steps-on m ps i e (Passed p f) a w = record { found = w .found; room = w .room; forward = omega (arith, w .forward) }
-  steps-on m ps i e (Stopped x) a w = w
+  table-placed m t i w = record { full = counted-in w; each = w .placed }
 
   -- ### From the place behind the last one to its attribute
 
-  module _ (m : MediaType) (ps : List Parameter) (i : ℕ) (found : Found s m ps i) where
+  module _ {m : MediaType} {ps : List Parameter} {i : ℕ} (found : Found s m ps i) where
     abbrev cs : List (Part Name)
     cs = parts s (found .before)
 
@@ -280,7 +285,7 @@ module _ (s : List ℕ) where
 
   -- ### The attribute
 
-  module _ (m : MediaType) (ps : List Parameter) (start : ℕ) (x : NameAt s m ps start) where
+  module _ {m : MediaType} {ps : List Parameter} {start : ℕ} (x : NameAt s m ps start) where
     abbrev ds : List (Part Name)
     ds = parts s (x .before)
 
@@ -306,7 +311,8 @@ module _ (s : List ℕ) where
       seventeenth h =
           x .reads
           ∙ part-plus-breaks rules s ds attribute TOKEN behind-name refl refl behind-name-apart start equals
-          (rw g (run-is token? s start (x .before .inside))) {z = crowded} start (omega arith) (omega (arith, name-run .0)) (λ n a b. absurd (omega arith))
+          (rw g (run-is token? s start (x .before .inside))) {z = crowded} start (omega arith) (omega (arith, name-run .0))
+          (λ n a b. absurd (omega arith))
           (limit-crowded start (ds ++ name (start + 1) ∷ []) (omega (arith, count-with (start + 1))))
 
       module _ (room : length ps < parameter-limit) where
@@ -344,7 +350,8 @@ module _ (s : List ℕ) where
 
           pub name-repeated : true ≡ among (slice s start equals) (names-at s ps) → header rules s ≡ refused 11 equals
           name-repeated e =
-              name-reads ∙ breaks-off rules s (ds ++ name equals ∷ []) behind-name equals behind-equals there equals-step {x = repeated} refl (limit-there true e)
+              name-reads ∙ breaks-off rules s (ds ++ name equals ∷ []) behind-name equals behind-equals there equals-step {x = repeated} refl
+              (limit-there true e)
 
           pub name-new : false ≡ among (slice s start equals) (names-at s ps) → Attribute s m ps start equals
           name-new e = record {
@@ -356,7 +363,8 @@ module _ (s : List ℕ) where
                 ap (repeats k []) (attributes-with ds start (slice s start equals))
                 ∙ repeats-elsewhere s (attributes ds) start equals (name-run .0) (name-run .1) k (λ z. absurd (omega arith))
                 (x .before .unrepeated k (omega (arith, name-run .0)));
-            reads = name-reads ∙ goes-on rules s (ds ++ name equals ∷ []) behind-name equals behind-equals there equals-step refl (limit-there false e);
+            reads = name-reads ∙ goes-on rules s (ds ++ name equals ∷ []) behind-name equals behind-equals there equals-step refl
+                (limit-there false e);
           }
 
 -- ### The value
@@ -369,7 +377,7 @@ placed-append : (s : List ℕ) (ps : List Parameter) (p : Parameter) → Placed 
 placed-append s [] p w x = (x, tt)
 placed-append s (q ∷ ps) p w x = (w .0, placed-append s ps p (w .1) x)
 
-module _ (s : List ℕ) (m : MediaType) (ps : List Parameter) (i e : ℕ) (x : Attribute s m ps i e) where
+module _ {s : List ℕ} {m : MediaType} {ps : List Parameter} {i e : ℕ} (x : Attribute s m ps i e) where
   abbrev named : Part Name
   named = record { label = attribute; start = i; text = slice s i e }
 
@@ -380,12 +388,13 @@ module _ (s : List ℕ) (m : MediaType) (ps : List Parameter) (i e : ℕ) (x : A
   through-count : length (attributes through) ≡ length ps + 1
   through-count =
       ap length (attributes-with (parts s (x .before)) i (slice s i e)) ∙ length-append (attributes (parts s (x .before))) (named ∷ [])
-      ∙ ap (λ (n : ℕ). n + 1) (attribute-count s (x .before))
+      ∙ ap (λ (n : ℕ). n + 1) (attribute-count (x .before))
 
   through-quiet : (k : ℕ) → e < k → limit k through ≡ none
   through-quiet k a = limit-kept k through (omega (arith, through-count, x .room)) false (x .fresh k a)
 
-  value-quiet : (l : Name) (b k : ℕ) (t : List ℕ) → attribute? l ≡ false → e < k → limit k (through ++ record { label = l; start = b; text = t } ∷ []) ≡ none
+  value-quiet : (l : Name) (b k : ℕ) (t : List ℕ) → attribute? l ≡ false → e < k
+      → limit k (through ++ record { label = l; start = b; text = t } ∷ []) ≡ none
   value-quiet l b k t f a = limit-without k through (record { label = l; start = b; text = t }) f ∙ through-quiet k a
 
   -- a value that stands from b to f, and behind which reading goes on at g

@@ -13,7 +13,8 @@ use Rattle.media.specs.declared.MediaType.{MediaType}
 use Rattle.media.specs.declared.Parameter.{Parameter}
 use Rattle.media.specs.declared.Step.{Step}
 use Rattle.media.specs.declared.Step.the-variants.{Passed, Stopped}
-use Rattle.media.specs.Grammar.{Name, attribute, EQUALS, token, argument, parameters, attributes, repeats, entries, kind, parameter-limit, rules}
+use Rattle.media.specs.Grammar.{Name, attribute, EQUALS, token, argument, parameters}
+use Rattle.media.specs.Grammar.{attributes, repeats, entries, kind, parameter-limit, rules}
 use Rattle.media.specs.Places.{names-at, Placed}
 
 abbrev pub texts : List (Part Name) → List (List ℕ)
@@ -56,14 +57,17 @@ module _ (s : List ℕ) where
     pub before : Before m ps i
     pub reads : header rules s ≡ from rules s (ahead (parts before) (part attribute token ⨾ byte EQUALS ⨾ argument ⨾ parameters)) i
 
+  abbrev pub name-part : (i e : ℕ) → Part Name
+  name-part i e = record { label = attribute; start = i; text = slice s i e }
+
   -- an attribute stands between i and e, and its `=` at e; the answer is what is found behind that
   pub record Attribute (m : MediaType) (ps : List Parameter) (i e : ℕ) : Type 0 where
     pub before : Before m ps e
     pub room : length ps < parameter-limit
     pub ordered : i ≤ e
     pub at : e < length s
-    pub fresh : (k : ℕ) → e < k → repeats k [] (attributes (parts before ++ record { label = attribute; start = i; text = slice s i e } ∷ [])) ≡ false
-    pub reads : header rules s ≡ from rules s (ahead (parts before ++ record { label = attribute; start = i; text = slice s i e } ∷ []) (argument ⨾ parameters)) (e + 1)
+    pub fresh : (k : ℕ) → e < k → repeats k [] (attributes (parts before ++ name-part i e ∷ [])) ≡ false
+    pub reads : header rules s ≡ from rules s (ahead (parts before ++ name-part i e ∷ []) (argument ⨾ parameters)) (e + 1)
 
   -- a quote stands at i
   pub record QuoteAt (i : ℕ) : Type 0 where
@@ -79,3 +83,7 @@ module _ (s : List ℕ) where
   abbrev pub StepAt : MediaType → List Parameter → ℕ → Step → Type 0
   StepAt m ps i (Passed p e) = Read m ps i p e
   StepAt m ps i (Stopped x) = header rules s ≡ refused (x .number) (x .place)
+
+  -- the value behind the attribute from i to e, whatever was found before
+  abbrev pub ValueAt : (i e : ℕ) → Step → Type 0
+  ValueAt i e r = (m : MediaType) (ps : List Parameter) → Attribute m ps i e → StepAt m ps e r

@@ -14,7 +14,7 @@ ghost use Rattle.media.specs.Reading.{filled, Answered, comparison, equa
 ghost use Rattle.media.specs.Places.{names-at, setting-at, settings-at, meaning-at, effective-at};
 ghost use Rattle.media.specs.Places.{part-at, same-names, same-byte, PlainAt};
 ghost use Rattle.media.specs.Places.{Placed, PlacedParameter, PlacedTable, NamesWithin, PlacedMedia};
-ghost use Rattle.media.specs.Scan.{QuoteAt, Found, NameAt, Attribute, StepAt};
+ghost use Rattle.media.specs.Scan.{QuoteAt, Found, NameAt, StepAt, ValueAt};
 use octets::Refusal;
 
 // The longest header value, and how many parameters there may be.
@@ -263,7 +263,7 @@ fn is_name(s: &[u8], start: usize, end: usize, p: Parameter) -> bool
 fn read_value(s: &[u8], start: usize, equals: usize) -> Step
     requires { ⌜ start ≤ equals ⌝ }
     requires { ⌜ equals < length (now s) ⌝ }
-    ensures { λ r. ⌜ ((m : MediaType) (ps : List Parameter) → Attribute (now (s .entry)) m ps start equals → StepAt (now (s .entry)) m ps equals r) ⌝ }
+    ensures { λ r. ⌜ ValueAt (now (s .entry)) start equals r ⌝ }
 {
     let from = equals + 1;
     if s.len() <= from {
@@ -290,7 +290,7 @@ fn read_value(s: &[u8], start: usize, equals: usize) -> Step
 fn read_quoted(s: &[u8], start: usize, equals: usize) -> Step
     requires { ⌜ start ≤ equals ⌝ }
     requires { ⌜ QuoteAt (now s) (equals + 1) ⌝ }
-    ensures { λ r. ⌜ ((m : MediaType) (ps : List Parameter) → Attribute (now (s .entry)) m ps start equals → StepAt (now (s .entry)) m ps equals r) ⌝ }
+    ensures { λ r. ⌜ ValueAt (now (s .entry)) start equals r ⌝ }
 {
     let from = equals + 2;
     let end = octets::quoted_end(s, from);

@@ -16,32 +16,37 @@ use Rattle.media.proofs.read.Tie as tie
 returns : tie.Need-returns
 returns c =
     let s = c .before .before .before .args .s .now in
-    refused-answer s _ _ _ (c .refused .ensures) (header-long rules s (c .before .if1 .taken))
+    refused-answer s (c .refused .ensures) (header-long rules s (c .before .if1 .taken))
 
 returns-2 : tie.Need-returns-2
 returns-2 c =
     let s = c .before .before .before .before .before .args .s .now in
-    refused-answer s _ _ _ (c .refused2 .ensures) (type-none s (c .before .before .before .if1 .left) (sym (c .before .before .class-end .ensures token? token-bits) ∙ c .before .if2 .taken))
+    refused-answer s (c .refused2 .ensures) (type-none s (c .before .before .before .if1 .left)
+    (sym (c .before .before .class-end .ensures token? token-bits) ∙ c .before .if2 .taken))
 
 returns-3 : tie.Need-returns-3
 returns-3 c =
     let s = c .before .before .before .before .before .before .args .s .now in
     let d = c .before .before .before .class-end in
-    refused-answer s _ _ _ (c .refused3 .ensures) (type-cut-off s (c .before .before .before .before .if1 .left) (d .result) (d .ensures token? token-bits) (c .before .before .if2 .left) (c .before .if3 .taken))
+    refused-answer s (c .refused3 .ensures) (type-cut-off s (c .before .before .before .before .if1 .left) (d .result)
+    (d .ensures token? token-bits) (c .before .before .if2 .left) (c .before .if3 .taken))
 
 returns-4 : tie.Need-returns-4
 returns-4 c =
     let s = c .before .before .before .before .before .before .before .before .args .s .now in
     let d = c .before .before .before .before .before .class-end in
-    refused-answer s _ _ _ (c .refused4 .ensures) (slash-not s (c .before .before .before .before .before .before .if1 .left) (d .result) (d .ensures token? token-bits) (c .before .before .before .before .if2 .left) (c .before .before .before .if3 .left) (c .before .if4 .taken))
+    refused-answer s (c .refused4 .ensures) (slash-not s (c .before .before .before .before .before .before .if1 .left) (d .result)
+    (d .ensures token? token-bits) (c .before .before .before .before .if2 .left) (c .before .before .before .if3 .left) (c .before .if4 .taken))
 
 returns-5 : tie.Need-returns-5
 returns-5 c =
     let s = c .before .before .before .before .before .before .before .before .before .before .args .s .now in
     let d = c .before .before .before .before .before .before .before .class-end in
     let e = c .before .if5 .taken in
-    refused-answer s _ _ _ (c .refused5 .ensures)
-    (subtype-none s (c .before .before .before .before .before .before .before .before .if1 .left) (d .result) (d .ensures token? token-bits) (c .before .before .before .before .before .before .if2 .left) (c .before .before .before .before .before .if3 .left) (c .before .before .before .if4 .left) (sym (c .before .before .class-end2 .ensures token? token-bits) ∙ e) ∙ ap (refused 1) (sym e))
+    refused-answer s (c .refused5 .ensures)
+    (subtype-none s (c .before .before .before .before .before .before .before .before .if1 .left) (d .result) (d .ensures token? token-bits)
+    (c .before .before .before .before .before .before .if2 .left) (c .before .before .before .before .before .if3 .left)
+    (c .before .before .before .if4 .left) (sym (c .before .before .class-end2 .ensures token? token-bits) ∙ e) ∙ ap (refused 1) (sym e))
 
 sub-t6 : tie.Need-sub-t6
 sub-t6 c = omega (arith, c .before .class-end2 .ensures token? token-bits)
@@ -51,7 +56,9 @@ read-parameters-requires c κs =
     let s = c .before .before .before .before .before .before .before .before .before .args .s .now in
     let d = c .before .before .before .before .before .before .class-end in
     let f = c .before .class-end2 in
-    subtype-found s (c .before .before .before .before .before .before .before .if1 .left) (d .result) (d .ensures token? token-bits) (c .before .before .before .before .before .if2 .left) (c .before .before .before .before .if3 .left) (c .before .before .if4 .left) (f .result) (f .ensures token? token-bits) (c .if5 .left)
+    subtype-found s (c .before .before .before .before .before .before .before .if1 .left) (d .result) (d .ensures token? token-bits)
+    (c .before .before .before .before .before .if2 .left) (c .before .before .before .before .if3 .left) (c .before .before .if4 .left)
+    (f .result) (f .ensures token? token-bits) (c .if5 .left)
 
 pub read-spec : {M : Type 1} → statement M
 read-spec =

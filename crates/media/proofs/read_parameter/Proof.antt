@@ -17,7 +17,8 @@ returns c =
     let s = x .s .now in
     let ps = take (x .found .count) (x .table) in
     let d = c .before .before .class-end in
-    subst (StepAt s (x .found) ps (x .at)) (sym (c .stopped .ensures)) (blanks-end s (x .found) ps (x .at) (z .pre .0) (z .pre .1) (d .result) (d .ensures blank? blank-bits) (c .before .if1 .taken))
+    subst (StepAt s (x .found) ps (x .at)) (sym (c .stopped .ensures))
+    (blanks-end (z .pre .0) (z .pre .1) (d .result) (d .ensures blank? blank-bits) (c .before .if1 .taken))
 
 returns-2 : tie.Need-returns-2
 returns-2 c =
@@ -26,7 +27,9 @@ returns-2 c =
     let s = x .s .now in
     let ps = take (x .found .count) (x .table) in
     let d = c .before .before .before .before .class-end in
-    subst (StepAt s (x .found) ps (x .at)) (sym (c .stopped2 .ensures)) (semicolon-not s (x .found) ps (x .at) (z .pre .0) (z .pre .1) (d .result) (d .ensures blank? blank-bits) (c .before .before .before .if1 .left) (c .before .if2 .taken))
+    subst (StepAt s (x .found) ps (x .at)) (sym (c .stopped2 .ensures))
+    (semicolon-not (z .pre .0) (z .pre .1) (d .result) (d .ensures blank? blank-bits) (c .before .before .before .if1 .left)
+    (c .before .if2 .taken))
 
 read-attribute-requires : tie.Need-read-attribute-requires
 read-attribute-requires c κs =
@@ -35,7 +38,8 @@ read-attribute-requires c κs =
     let s = x .s .now in
     let ps = take (x .found .count) (x .table) in
     let d = c .before .before .before .before .class-end in
-    name-begins s (x .found) ps (x .at) (z .pre .0) (z .pre .1) (d .result) (d .ensures blank? blank-bits) (c .before .before .before .if1 .left) (c .before .if2 .left) (c .class-end2 .result) (c .class-end2 .ensures blank? blank-bits)
+    name-begins (z .pre .0) (z .pre .1) (d .result) (d .ensures blank? blank-bits) (c .before .before .before .if1 .left) (c .before .if2 .left)
+    (c .class-end2 .result) (c .class-end2 .ensures blank? blank-bits)
 
 returns-3 : tie.Need-returns-3
 returns-3 c =
@@ -46,7 +50,8 @@ returns-3 c =
     let d = c .before .before .before .before .before .class-end in
     let f = c .before .class-end2 in
     steps-on s (x .found) ps (x .at) (f .result) (c .read-attribute .result)
-    (name-behind s (x .found) ps (x .at) (z .pre .0) (z .pre .1) (d .result) (d .ensures blank? blank-bits) (c .before .before .before .before .if1 .left) (c .before .before .if2 .left) (f .result) (f .ensures blank? blank-bits)) (c .read-attribute .ensures)
+    (name-behind (z .pre .0) (z .pre .1) (d .result) (d .ensures blank? blank-bits) (c .before .before .before .before .if1 .left)
+    (c .before .before .if2 .left) (f .result) (f .ensures blank? blank-bits)) (c .read-attribute .ensures)
 
 pub read-parameter-spec : {M : Type 1} → statement M
 read-parameter-spec =

@@ -21,40 +21,44 @@ loop-holds c = record { table = _; found = c .before .pre; is = refl }
 read-parameter-requires : tie.Need-read-parameter-requires Inv-loop μ-loop
 read-parameter-requires c κs =
     let l = c .before .loop in
-    (filling-found (c .before .before .before .args .s .now) (l .found) (l .parameters) (l .at) (l .inv), c .loop-test .taken)
+    (filling-found (l .inv), c .loop-test .taken)
 
 returns : tie.Need-returns Inv-loop μ-loop
 returns c =
     let l = c .before .before .before .before .before .before .loop in
     let s = c .before .before .before .before .before .before .before .before .args .s .now in
     let e = c .before .before .before .before .read-parameter .ensures in
-    refused-answer s _ _ _ (c .refused .ensures) (subst (StepAt s (l .found) (take (l .found .count) (l .parameters)) (l .at)) (c .before .before .r .given .1) e)
+    refused-answer s (c .refused .ensures) (subst (StepAt s (l .found) (take (l .found .count) (l .parameters)) (l .at))
+    (c .before .before .r .given .1) e)
 
 passed : tie.Need-array-set-from-parameters Inv-loop μ-loop
 passed c =
     let l = c .before .before .before .before .before .loop in
     let s = c .before .before .before .before .before .before .before .args .s .now in
-    let e = subst (StepAt s (l .found) (take (l .found .count) (l .parameters)) (l .at)) (c .before .parameter .given .1) (c .before .before .before .read-parameter .ensures) in
-    filling-few s (l .found) (l .parameters) (l .at) (l .inv) _ _ e
+    let e = subst (StepAt s (l .found) (take (l .found .count) (l .parameters)) (l .at)) (c .before .parameter .given .1)
+    (c .before .before .before .read-parameter .ensures) in
+    filling-few (l .inv) e
 
 loop-less : tie.Need-loop-less Inv-loop μ-loop
 loop-less c =
     let l = c .before .before .before .before .before .loop in
     let s = c .before .before .before .before .before .before .before .args .s .now in
-    let e = subst (StepAt s (l .found) (take (l .found .count) (l .parameters)) (l .at)) (c .before .parameter .given .1) (c .before .before .before .read-parameter .ensures) in
+    let e = subst (StepAt s (l .found) (take (l .found .count) (l .parameters)) (l .at)) (c .before .parameter .given .1)
+    (c .before .before .before .read-parameter .ensures) in
     omega (arith, e .forward, c .before .before .before .before .loop-test .taken)
 
 loop-again : tie.Need-loop-again Inv-loop μ-loop
 loop-again c =
     let l = c .before .before .before .before .before .loop in
     let s = c .before .before .before .before .before .before .before .args .s .now in
-    let e = subst (StepAt s (l .found) (take (l .found .count) (l .parameters)) (l .at)) (c .before .parameter .given .1) (c .before .before .before .read-parameter .ensures) in
-    filling-next s (l .found) (l .parameters) (l .at) (l .inv) _ _ e
+    let e = subst (StepAt s (l .found) (take (l .found .count) (l .parameters)) (l .at)) (c .before .parameter .given .1)
+    (c .before .before .before .read-parameter .ensures) in
+    filling-next (l .inv) e
 
 returns-2 : tie.Need-returns-2 Inv-loop μ-loop
 returns-2 c =
     let l = c .before .loop in
-    filled-answer (c .before .before .before .args .s .now) (l .found) (l .parameters) (l .at) (l .inv) (omega (arith, c .loop-test .left))
+    filled-answer (l .inv) (omega (arith, c .loop-test .left))
 
 pub read-parameters-spec : {M : Type 1} → statement M
 read-parameters-spec =

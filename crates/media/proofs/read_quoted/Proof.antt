@@ -15,7 +15,7 @@ returns c = λ m ps x.
     let s = z .args .s .now in
     let e = c .before .before .quoted-end in
     subst (StepAt s m ps (z .args .equals)) (sym (c .stopped .ensures))
-    (quote-cut-off s m ps (z .args .start) (z .args .equals) x (z .pre .1 .at) (z .pre .1 .quote) (omega (arith, e .ensures, c .before .if1 .taken))
+    (quote-cut-off x (z .pre .1 .at) (z .pre .1 .quote) (omega (arith, e .ensures, c .before .if1 .taken))
     ∙ ap (refused 1) (sym (e .ensures)))
 
 returns-2 : tie.Need-returns-2
@@ -24,14 +24,14 @@ returns-2 c = λ m ps x.
     let s = z .args .s .now in
     let e = c .before .before .before .before .quoted-end in
     subst (StepAt s m ps (z .args .equals)) (sym (c .stopped2 .ensures))
-    (quote-not s m ps (z .args .start) (z .args .equals) x (z .pre .1 .at) (z .pre .1 .quote) (rw (sym (e .ensures)) (c .before .if2 .taken))
+    (quote-not x (z .pre .1 .at) (z .pre .1 .quote) (rw (sym (e .ensures)) (c .before .if2 .taken))
     ∙ ap (refused 1) (sym (e .ensures)))
 
 returns-3 : tie.Need-returns-3
 returns-3 c = λ m ps x.
     let z = c .before .before .before .before .before in
     let e = c .before .before .before .quoted-end in
-    quote-read (z .args .s .now) m ps (z .args .start) (z .args .equals) x (z .pre .1 .at) (z .pre .1 .quote) (e .result) (e .ensures) (c .before .before .if1 .left)
+    quote-read x (z .pre .1 .at) (z .pre .1 .quote) (e .result) (e .ensures) (c .before .before .if1 .left)
     (c .if2 .left)
 
 pub read-quoted-spec : {M : Type 1} → statement M

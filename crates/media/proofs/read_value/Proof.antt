@@ -16,7 +16,7 @@ returns : tie.Need-returns
 returns c = λ m ps x.
     let z = c .before .before .before in
     let s = z .args .s .now in
-    subst (StepAt s m ps (z .args .equals)) (sym (c .stopped .ensures)) (value-cut-off s m ps (z .args .start) (z .args .equals) x (c .before .if1 .taken))
+    subst (StepAt s m ps (z .args .equals)) (sym (c .stopped .ensures)) (value-cut-off x (c .before .if1 .taken))
 
 returns-3 : tie.Need-returns-3
 returns-3 c = λ m ps x.
@@ -24,7 +24,7 @@ returns-3 c = λ m ps x.
     let s = z .args .s .now in
     let e = c .before .before .class-end .ensures token? token-bits in
     subst (StepAt s m ps (z .args .equals)) (sym (c .stopped2 .ensures))
-    (token-none s m ps (z .args .start) (z .args .equals) x (c .before .before .before .before .before .if1 .left) (c .before .before .before .if2 .left)
+    (token-none x (c .before .before .before .before .before .if1 .left) (c .before .before .before .if2 .left)
     (sym e ∙ c .before .if3 .taken))
 
 sub-t12 : tie.Need-sub-t12
@@ -36,7 +36,7 @@ returns-4 : tie.Need-returns-4
 returns-4 c = λ m ps x.
     let z = c .before .before .before .before .before .before in
     let e = c .before .class-end in
-    token-read (z .args .s .now) m ps (z .args .start) (z .args .equals) x (c .before .before .before .before .if1 .left) (c .before .before .if2 .left)
+    token-read x (c .before .before .before .before .if1 .left) (c .before .before .if2 .left)
     (e .result) (e .ensures token? token-bits) (c .if3 .left)
 
 pub read-value-spec : {M : Type 1} → statement M
