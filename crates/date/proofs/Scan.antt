@@ -35,7 +35,7 @@ use Rattle.octets.specs.Shapes.{stands-for, fitting}
 use Rattle.date.specs.Shapes.{standing, longest}
 use Rattle.grammar.specs.Words.{common}
 use Rattle.grammar.proofs.Words.{Word, choice, find, nearest, proper, Tail as Behind, no-tail, seq-tail, word-found, none-found}
-use Rattle.octets.proofs.Lines.{Item, is, num, zeros, line, shape, sound, over, parts, Lined, line-reads}
+use Rattle.scans.proofs.Lines.{Item, is, num, zeros, line, shape, sound, over, parts, Lined, line-reads}
 use Rattle.date.proofs.Tables.{fit-bound, fit-inside, two-slice}
 
 blank-digit : digit? 32 ≡ false

@@ -20,7 +20,7 @@ use Rattle.grammar.proofs.Scans.{ends-well, goes-too-far}
 use Rattle.octets.specs.declared.Decimal.the-variants.{Number, Above, Missing}
 use Rattle.octets.specs.Bytes.{digit?}
 use Rattle.octets.specs.Numbers.{number, decimal-at}
-use Rattle.octets.proofs.Scans.{number-of, number-fits, number-reads, number-missing, number-passes, number-limits}
+use Rattle.scans.proofs.Scans.{number-of, number-fits, number-reads, number-missing, number-passes, number-limits}
 use Rattle.delta.specs.Grammar.{Name, seconds, largest, rules}
 
 apart : (j b : ℕ) → digit? b ≡ true → deriv {L = Name} empty j b ≡ void

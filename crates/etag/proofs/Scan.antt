@@ -19,7 +19,7 @@ use Rattle.grammar.proofs.Scans.{goes-on, stops-at, ends-early, first-is, first
 use Rattle.grammar.proofs.Pieces.{slice-length}
 use Rattle.octets.specs.Case.{agreeing}
 use Rattle.octets.specs.Quoted.{QUOTE, quoted-text, quoted-end}
-use Rattle.octets.proofs.Quoted.{quoted-closed, quoted-bad, quoted-cut-off}
+use Rattle.scans.proofs.Quoted.{quoted-closed, quoted-bad, quoted-cut-off}
 use Rattle.etag.specs.Grammar.{Name, weak, opaque, mark, opaque-tag, entity-tag, rules}
 use Rattle.etag.specs.Scan.{AfterMark}
 

@@ -89,7 +89,7 @@ module _ {L : Type 0} where
   -- ## One byte
 
   module _ (c : Class) (g : Grammar L) (l : live g ≡ true) (i b : ℕ) where
-    then-byte : deriv (then (byte c) g) i b ≡ cond (c .has b) g void
+    pub then-byte : deriv (then (byte c) g) i b ≡ cond (c .has b) g void
     then-byte = go (follows g)
       where
         go : Follows g → deriv (then (byte c) g) i b ≡ cond (c .has b) g void

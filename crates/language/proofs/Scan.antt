@@ -20,7 +20,7 @@ use Rattle.grammar.proofs.Repeats.{Short, part-one-up-to, part-one-up-to-none, 
 use Rattle.octets.specs.Bytes.{letter?}
 use Rattle.octets.specs.Classes.{LETTER}
 use Rattle.octets.specs.Runs.{run-end}
-use Rattle.octets.proofs.Scans.{run-is}
+use Rattle.octets.proofs.Runs.{run-is}
 use Rattle.language.specs.Grammar.{Name, primary, subtag, letters, subtags, language, primary-length, rules}
 use Rattle.language.specs.Scan.{part-end, Behind}
 

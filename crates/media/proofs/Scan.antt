@@ -24,8 +24,9 @@ use Rattle.octets.specs.Bytes.{token?, blank?}
 use Rattle.octets.specs.Classes.{TOKEN, BLANK}
 use Rattle.octets.specs.Quoted.{QUOTE, quoted-text, quoted-end}
 use Rattle.octets.specs.Runs.{run-end}
-use Rattle.octets.proofs.Scans.{run-is}
-use Rattle.octets.proofs.Quoted.{quoted-closed, quoted-bad, quoted-cut-off, quoted-within}
+use Rattle.octets.proofs.Bytes.{told-apart}
+use Rattle.octets.proofs.Runs.{run-is}
+use Rattle.scans.proofs.Quoted.{quoted-closed, quoted-bad, quoted-cut-off}
 use Rattle.media.specs.declared.MediaType.{MediaType}
 use Rattle.media.specs.declared.Parameter.{Parameter}
 use Rattle.media.specs.declared.Step.{Step}
@@ -69,10 +70,6 @@ blank-no-token b e = go (eqb b 32) refl (eqb b 9) refl e
     go false f true g h = ap token? (eqb-true b 9 g)
     go false f false g h = absurd (true≢false (sym h ∙ rw (f, g)))
 
--- a byte of a class is none that is outside
-other : (p : ℕ → Bool) (b x : ℕ) → p b ≡ true → p x ≡ false → eqb b x ≡ false
-other p b x e f = ne-eqb b x (λ d. true≢false (sym e ∙ ap p d ∙ f))
-
 -- ## What is left of the grammar
 
 abbrev behind-equals : Grammar Name
@@ -91,13 +88,13 @@ abbrev behind-type : Grammar Name
 behind-type = byte SLASH ⨾ part subtype token ⨾ parameters
 
 behind-type-apart : (j b : ℕ) → token? b ≡ true → deriv behind-type j b ≡ void
-behind-type-apart j b e = rw (other token? b 47 e slash-no-token)
+behind-type-apart j b e = rw (told-apart token? b 47 e slash-no-token)
 
 behind-name-apart : (j b : ℕ) → token? b ≡ true → deriv behind-name j b ≡ void
-behind-name-apart j b e = rw (other token? b 61 e equals-no-token)
+behind-name-apart j b e = rw (told-apart token? b 61 e equals-no-token)
 
 at-semicolon-apart : (j b : ℕ) → blank? b ≡ true → deriv at-semicolon j b ≡ void
-at-semicolon-apart j b e = rw (other blank? b 59 e semicolon-no-blank)
+at-semicolon-apart j b e = rw (told-apart blank? b 59 e semicolon-no-blank)
 
 at-name-apart : (j b : ℕ) → blank? b ≡ true → deriv at-name j b ≡ void
 at-name-apart j b e = rw (blank-no-token b e)
@@ -110,14 +107,14 @@ token-no-blank b e = go (blank? b) refl
     go false f = refl
 
 parameters-apart : (j b : ℕ) → token? b ≡ true → deriv parameters j b ≡ void
-parameters-apart j b e = rw (token-no-blank b e, other token? b 59 e semicolon-no-token)
+parameters-apart j b e = rw (token-no-blank b e, told-apart token? b 59 e semicolon-no-token)
 
 -- a parameter begins with blanks or its semicolon
 begins : (j b : ℕ) → deriv parameters j b ≡ deriv (blanks ⨾ at-semicolon) j b
 begins j b = go (blank? b) refl (eqb b 59) refl
   where
     go : (x : Bool) → blank? b ≡ x → (y : Bool) → eqb b 59 ≡ y → deriv parameters j b ≡ deriv (blanks ⨾ at-semicolon) j b
-    go true e true f = absurd (true≢false (sym f ∙ other blank? b 59 e semicolon-no-blank))
+    go true e true f = absurd (true≢false (sym f ∙ told-apart blank? b 59 e semicolon-no-blank))
     go true e false f = rw (e, f)
     go false e true f = rw (e, f)
     go false e false f = rw (e, f)

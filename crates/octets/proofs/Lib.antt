@@ -4,10 +4,7 @@ pub mod Tables
 pub mod Runs
 pub mod Case
 pub mod Numbers
-pub mod Scans
 pub mod Quoted
 pub mod SameBytes
 pub mod Writing
 pub mod Alike
-pub mod Words
-pub mod Lines

@@ -19,6 +19,7 @@ use Rattle.octets.specs.Bytes.{escaped?}
 use Rattle.octets.specs.Classes.{ESCAPED}
 use Rattle.octets.specs.Runs.{Bits}
 use Rattle.octets.proofs.Tables.{bits}
+use Rattle.octets.proofs.Bytes.{told-apart}
 use Rattle.products.specs.declared.Products.{Products}
 use Rattle.products.specs.Counting.{Name, opened, closed, levels}
 use Rattle.products.specs.Grammar.{comment-text?, content, level-limit, rules}
@@ -29,10 +30,6 @@ use Rattle.products.proofs.Counting.{levels-append, nothing-enclosed, e
 pub comment-text-bits : Bits (0xfffffcff00000200 ∷ 0x7fffffffefffffff ∷ 0xffffffffffffffff ∷ 0xffffffffffffffff ∷ []) comment-text?
 unfolding comment-text?
 comment-text-bits = bits (0xfffffcff00000200 ∷ 0x7fffffffefffffff ∷ 0xffffffffffffffff ∷ 0xffffffffffffffff ∷ []) comment-text? refl
-
--- a byte of a class is none that is outside it
-pub apart : (p : ℕ → Bool) (b x : ℕ) → p b ≡ true → p x ≡ false → eqb b x ≡ false
-apart p b x t f = ne-eqb b x (λ e. absurd (true≢false (sym t ∙ ap p e ∙ f)))
 
 -- no limit is broken up to eight levels; it is at the ninth
 pub quiet : (i : ℕ) (ps : List (Part Name)) (n : ℕ) → levels 0 ps ≡ n → n ≤ level-limit → rules .limit i ps ≡ none
@@ -55,7 +52,7 @@ then-pair k n = then (nest (just 40 tt) (just 41 tt) opened closed content (byte
 
 text-step : (i b : ℕ) → comment-text? b ≡ true → deriv content i b ≡ empty
 unfolding comment-text?
-text-step i b t = rw (t, apart comment-text? b 92 t refl)
+text-step i b t = rw (t, told-apart comment-text? b 92 t refl)
 
 pair-step : (i b : ℕ) → b ≡ 92 → deriv content i b ≡ byte ESCAPED
 unfolding comment-text?
@@ -90,7 +87,7 @@ module _ (s : List ℕ) where
       unfolding comment-text?
       is-text at t =
           level-item rules s (p .parts) (just 40 tt) (just 41 tt) opened closed content (p .next) (p .lives) (p .none-held) n i at
-          (apart comment-text? (getD s i 0) 40 t refl) (apart comment-text? (getD s i 0) 41 t refl) (text-step i (getD s i 0) t) (still i)
+          (told-apart comment-text? (getD s i 0) 40 t refl) (told-apart comment-text? (getD s i 0) 41 t refl) (text-step i (getD s i 0) t) (still i)
 
       pub is-other : Inside s i → comment-text? (getD s i 0) ≡ false → (getD s i 0 ≡ 92 → ⊥) → here i ≡ refused 1 i
       is-other w t e =

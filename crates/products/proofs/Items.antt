@@ -24,14 +24,15 @@ use Rattle.grammar.proofs.Skips.{skip-run}
 use Rattle.octets.specs.Bytes.{blank?, token?}
 use Rattle.octets.specs.Classes.{TOKEN, BLANK}
 use Rattle.octets.specs.Runs.{run-end}
+use Rattle.octets.proofs.Bytes.{told-apart}
 use Rattle.octets.proofs.Runs.{run-end-stop, run-end-next}
-use Rattle.octets.proofs.Scans.{run-is}
+use Rattle.octets.proofs.Runs.{run-is}
 use Rattle.products.specs.declared.Products.{Products}
 use Rattle.products.specs.Counting.{Name, product, opened, levels, product-count, outermost, deepest}
 use Rattle.products.specs.Grammar.{token, slash-token, a-product, further, more, products, value, rules}
 use Rattle.products.specs.Scan.{within, Whole, Place, opening, entered, CommentRead, Found, NoComment, ItemRead}
 use Rattle.products.proofs.Counting.{levels-append, product-append, outermost-append, deepest-append}
-use Rattle.products.proofs.Comments.{apart, quiet, opened-one}
+use Rattle.products.proofs.Comments.{quiet, opened-one}
 
 -- what may follow a product, a comment, a product's first token
 abbrev behind-product : Grammar Name
@@ -63,15 +64,15 @@ token-no-blank b t = go (blank? b) refl
 
 blank-no-open : (b : ℕ) → blank? b ≡ true → eqb b 40 ≡ false
 unfolding blank?
-blank-no-open b t = apart blank? b 40 t refl
+blank-no-open b t = told-apart blank? b 40 t refl
 
 token-no-open : (b : ℕ) → token? b ≡ true → eqb b 40 ≡ false
 unfolding token?
-token-no-open b t = apart token? b 40 t refl
+token-no-open b t = told-apart token? b 40 t refl
 
 token-no-slash : (b : ℕ) → token? b ≡ true → eqb b 47 ≡ false
 unfolding token?
-token-no-slash b t = apart token? b 47 t refl
+token-no-slash b t = told-apart token? b 47 t refl
 
 module _ (i b : ℕ) where
   -- where an item must stand

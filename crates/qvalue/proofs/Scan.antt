@@ -21,7 +21,7 @@ use Rattle.octets.specs.Classes.{DIGIT}
 use Rattle.octets.specs.Runs.{run-end}
 use Rattle.octets.specs.Numbers.{grow, digits}
 use Rattle.octets.proofs.Bytes.{digit-low, digit-high}
-use Rattle.octets.proofs.Scans.{run-is}
+use Rattle.octets.proofs.Runs.{run-is}
 use Rattle.octets.proofs.Tables.{bits, digit-bits}
 use Rattle.qvalue.specs.Grammar.{Name, fraction, decimals, qvalue, rules}
 use Rattle.qvalue.specs.Scan.{whole-part, AfterWhole}

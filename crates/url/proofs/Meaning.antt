@@ -19,11 +19,12 @@ use Rattle.grammar.proofs.Values.{answered-alike}
 use Rattle.grammar.proofs.Deterministic.{deterministic?}
 use Rattle.octets.specs.Bytes.{digit?, letter?, hex?}
 use Rattle.octets.specs.Case.{alike}
+use Rattle.octets.specs.Same.{same?}
 use Rattle.url.specs.declared.Url.{Url}
 use Rattle.url.specs.Bytes.{host?, unreserved?, path?, query?}
 use Rattle.url.specs.Grammar as G
 use Rattle.url.specs.Grammar.{Name, url, is-host, is-path, is-query, named, span, host-span, place, rules}
-use Rattle.url.specs.Meaning.{lower-all, resolved, host-text, path-text, query-text, page, pages, same-text, same-query, same-page}
+use Rattle.url.specs.Meaning.{lower-all, resolved, host-text, path-text, query-text, page, pages, same-query, same-page}
 use Rattle.url.specs.Places.{piece, Inside, Within, path-in, query-in, page-in, Placed}
 
 -- no URL can be read in two ways
@@ -89,7 +90,7 @@ module _ (s : List ℕ) where
   means-nothing n p e = answered-alike rules page tt tt one-way s (refused n p) e
 
 -- hosts alike in letter case are the same in lower case
-pub alike-lower : (a b : List ℕ) → alike a b ≡ same-text (lower-all a) (lower-all b)
+pub alike-lower : (a b : List ℕ) → alike a b ≡ same? (lower-all a) (lower-all b)
 alike-lower [] [] = refl
 alike-lower [] (y ∷ b) = refl
 alike-lower (x ∷ a) [] = refl
@@ -99,10 +100,10 @@ alike-lower (x ∷ a) (y ∷ b) = ap (λ (t : Bool). eqb (lower x) (lower y) && 
 
 module _ (s t : List ℕ) (u v : Url) where
   abbrev hosts : Bool
-  hosts = same-text (lower-all (piece s (u .host))) (lower-all (piece t (v .host)))
+  hosts = same? (lower-all (piece s (u .host))) (lower-all (piece t (v .host)))
 
   abbrev paths : Bool
-  paths = same-text (path-in s (u .path)) (path-in t (v .path))
+  paths = same? (path-in s (u .path)) (path-in t (v .path))
 
   abbrev queries : Bool
   queries = same-query (query-in s (u .query)) (query-in t (v .query))

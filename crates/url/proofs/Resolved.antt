@@ -11,8 +11,9 @@ use lib.ListN.{length, getD, drop, drop-of-length-le, length-drop}
 use lib.Seq.{drop-cons}
 use Rattle.octets.specs.Bytes.{digit?, letter?, hex?, hex-value}
 use Rattle.octets.proofs.Spans.{span}
+use Rattle.octets.specs.Same.{same?}
 use Rattle.url.specs.Bytes.{unreserved?}
-use Rattle.url.specs.Meaning.{escaped-byte, unneeded?, resolved, same-text}
+use Rattle.url.specs.Meaning.{escaped-byte, unneeded?, resolved}
 use Rattle.url.specs.Places.{Resolves}
 
 -- a byte that begins no escape, and one that is not needed
@@ -40,13 +41,13 @@ unneeded-first a x y t e h = go (eqb a 37) (unneeded? x y) (eq-eqb a 37 e) h
     go u v f g = rw (f, g)
 
 -- a text that is not empty stays so
-not-empty : (a : ℕ) (t : List ℕ) → (same-text [] (resolved (a ∷ t)) ≡ false) × (same-text (resolved (a ∷ t)) [] ≡ false)
+not-empty : (a : ℕ) (t : List ℕ) → (same? [] (resolved (a ∷ t)) ≡ false) × (same? (resolved (a ∷ t)) [] ≡ false)
 not-empty a [] = (refl, refl)
 not-empty a (x ∷ []) = (refl, refl)
 not-empty a (x ∷ y ∷ t) = go (eqb a 37 && unneeded? x y)
   where
-    go : (u : Bool) → (same-text [] (cond u (escaped-byte x y ∷ resolved t) (a ∷ resolved (x ∷ y ∷ t))) ≡ false)
-        × (same-text (cond u (escaped-byte x y ∷ resolved t) (a ∷ resolved (x ∷ y ∷ t))) [] ≡ false)
+    go : (u : Bool) → (same? [] (cond u (escaped-byte x y ∷ resolved t) (a ∷ resolved (x ∷ y ∷ t))) ≡ false)
+        × (same? (cond u (escaped-byte x y ∷ resolved t) (a ∷ resolved (x ∷ y ∷ t))) [] ≡ false)
     go true = (refl, refl)
     go false = (refl, refl)
 
@@ -121,17 +122,17 @@ module _ (b r : ℕ) (h : b < 256) (e : r ≡ cond (hex? b) (hex-value b) 16) wh
 -- ## Two texts, from a place in each on
 
 module _ (a b : List ℕ) (i j : ℕ) where
-  pub both-ended : length a ≤ i → leb (length b) j ≡ same-text (resolved (drop i a)) (resolved (drop j b))
+  pub both-ended : length a ≤ i → leb (length b) j ≡ same? (resolved (drop i a)) (resolved (drop j b))
   both-ended h = rw (drop-of-length-le a h) (go (leb (length b) j) refl)
     where
-      go : (t : Bool) → leb (length b) j ≡ t → t ≡ same-text [] (resolved (drop j b))
+      go : (t : Bool) → leb (length b) j ≡ t → t ≡ same? [] (resolved (drop j b))
       go true e = rw (drop-of-length-le b (leb-true (length b) j e))
       go false e = rw (drop-cons b j 0 (lower-than e)) (sym (not-empty (getD b j 0) (drop (suc j) b) .0))
         where
           lower-than : leb (length b) j ≡ false → j < length b
           lower-than f = leb-false (length b) j f
 
-  pub first-longer : i < length a → length b ≤ j → same-text (resolved (drop i a)) (resolved (drop j b)) ≡ false
+  pub first-longer : i < length a → length b ≤ j → same? (resolved (drop i a)) (resolved (drop j b)) ≡ false
   first-longer h k = rw (drop-of-length-le b k, drop-cons a i 0 h) (not-empty (getD a i 0) (drop (suc i) a) .1)
 
 percent-reserved : unreserved? 37 ≡ false

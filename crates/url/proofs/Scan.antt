@@ -22,7 +22,9 @@ use Rattle.octets.specs.Classes.{DIGIT}
 use Rattle.octets.specs.Case.{agreeing}
 use Rattle.octets.specs.Runs.{run-end}
 use Rattle.octets.specs.Numbers.{number, decimal-at, above?}
-use Rattle.octets.proofs.Scans.{run-is, number-of, number-fits, missing-of, above-of, number-limits, word-reads}
+use Rattle.octets.proofs.Bytes.{told-apart}
+use Rattle.octets.proofs.Runs.{run-is}
+use Rattle.scans.proofs.Scans.{number-of, number-fits, missing-of, above-of, number-limits, word-reads}
 use Rattle.url.specs.declared.Url.{Url}
 use Rattle.url.specs.declared.Place.the-variants.{Absent, At}
 use Rattle.url.specs.declared.Ending.the-variants.{Ends, Breaks}
@@ -34,20 +36,17 @@ use Rattle.url.proofs.Text.{stretch-up, text-ends, text-breaks}
 
 -- ## Bytes apart
 
-apart : (f : ℕ → Bool) (b x : ℕ) → f b ≡ true → f x ≡ false → eqb b x ≡ false
-apart f b x d e = ne-eqb b x (λ h. true≢false (sym d ∙ ap f h ∙ e))
-
 host-apart : (j b : ℕ) → host? b ≡ true → deriv (port-part ⨾ path-part) j b ≡ void
 unfolding host? letter? digit?
-host-apart j b d = rw (apart host? b 58 d refl, apart host? b 47 d refl)
+host-apart j b d = rw (told-apart host? b 58 d refl, told-apart host? b 47 d refl)
 
 digit-apart : (j b : ℕ) → digit? b ≡ true → deriv path-part j b ≡ void
 unfolding digit?
-digit-apart j b d = rw (apart digit? b 47 d refl)
+digit-apart j b d = rw (told-apart digit? b 47 d refl)
 
 path-apart : (j b : ℕ) → path? b ≡ true → deriv query-part j b ≡ void
 unfolding path? unreserved? letter? digit?
-path-apart j b d = rw (apart path? b 63 d refl)
+path-apart j b d = rw (told-apart path? b 63 d refl)
 
 percent-apart : (j b : ℕ) → b ≡ 37 → deriv query-part j b ≡ void
 percent-apart j b e = rw e

@@ -7,6 +7,7 @@ use lib.Dec.{eqb}
 use Rattle.grammar.specs.Grammar.{Part, lower}
 use Rattle.grammar.specs.Reading.{Rules}
 use Rattle.octets.specs.Bytes.{hex?, hex-value}
+use Rattle.octets.specs.Same.{same?}
 use Rattle.url.specs.Bytes.{unreserved?}
 use Rattle.url.specs.Grammar.{Name, is-host, is-port, is-path, is-query, named, port-number, rules}
 
@@ -61,18 +62,12 @@ page ps = record {
 abbrev pub pages : Rules Name Page
 pages = record { grammar = rules .grammar; limit = rules .limit; fault = rules .fault; value = page }
 
-abbrev pub same-text : List ℕ → List ℕ → Bool
-same-text [] [] = true
-same-text [] (b ∷ t) = false
-same-text (a ∷ s) [] = false
-same-text (a ∷ s) (b ∷ t) = eqb a b && same-text s t
-
 abbrev pub same-query : Option (List ℕ) → Option (List ℕ) → Bool
 same-query none none = true
 same-query none (some t) = false
 same-query (some s) none = false
-same-query (some s) (some t) = same-text s t
+same-query (some s) (some t) = same? s t
 
 abbrev pub same-page : Page → Page → Bool
 same-page p q =
-    same-text (p .host) (q .host) && (eqb (p .port) (q .port) && (same-text (p .path) (q .path) && same-query (p .query) (q .query)))
+    same? (p .host) (q .host) && (eqb (p .port) (q .port) && (same? (p .path) (q .path) && same-query (p .query) (q .query)))

@@ -7,7 +7,8 @@ ghost use Rattle.grammar.specs.Comparing.{compare as comparing};
 ghost use Rattle.grammar.specs.Judge.{header};
 ghost use Rattle.octets.specs.Runs.{Bits};
 ghost use Rattle.url.specs.Grammar.{rules};
-ghost use Rattle.url.specs.Meaning.{resolved, same-text, same-query, same-page, pages};
+ghost use Rattle.octets.specs.Same.{same?};
+ghost use Rattle.url.specs.Meaning.{resolved, same-query, same-page, pages};
 ghost use Rattle.url.specs.Places.{Resolves, piece, Inside, Within, path-in, query-in, page-in, Placed};
 ghost use Rattle.url.specs.Reading.{verdict, refusal-of, comparison};
 ghost use Rattle.url.specs.Scan.{Hexes, Found, AfterHost, BeforePath, BeforeQuery};
@@ -318,7 +319,7 @@ fn same_query(a: &[u8], p: Place, b: &[u8], q: Place) -> bool
 // Are two paths the same? An absent one is `/`.
 fn same_path(a: &[u8], p: Place, b: &[u8], q: Place) -> bool
     requires { ⌜ Within (now a) p × Within (now b) q ⌝ }
-    ensures { λ r. ⌜ r ≡ same-text (path-in (now (a .entry)) p) (path-in (now (b .entry)) q) ⌝ }
+    ensures { λ r. ⌜ r ≡ same? (path-in (now (a .entry)) p) (path-in (now (b .entry)) q) ⌝ }
 {
     match p {
         Place::Absent => match q {
@@ -344,7 +345,7 @@ fn part<'a>(s: &'a [u8], x: Span) -> &'a [u8]
 
 // Are two texts the same, once each escape that is not needed is its character?
 fn same_text(a: &[u8], b: &[u8]) -> bool
-    ensures { λ r. ⌜ r ≡ same-text (resolved (now (a .entry))) (resolved (now (b .entry))) ⌝ }
+    ensures { λ r. ⌜ r ≡ same? (resolved (now (a .entry))) (resolved (now (b .entry))) ⌝ }
 {
     let mut i = 0;
     let mut j = 0;

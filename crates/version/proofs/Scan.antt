@@ -23,8 +23,9 @@ use Rattle.octets.specs.Classes.{DIGIT}
 use Rattle.octets.specs.Case.{agreeing}
 use Rattle.octets.specs.Numbers.{number, decimal-at, number-limit}
 use Rattle.octets.proofs.Bytes.{digit-low}
-use Rattle.octets.proofs.Scans.{run-is, number-of, number-fits, number-reads, number-missing, number-passes, number-limits, word-reads}
-use Rattle.octets.proofs.Words.{word-whole, word-inside}
+use Rattle.octets.proofs.Runs.{run-is}
+use Rattle.scans.proofs.Scans.{number-of, number-fits, number-reads, number-missing, number-passes, number-limits, word-reads}
+use Rattle.scans.proofs.Words.{word-whole, word-inside}
 use Rattle.version.specs.Grammar.{Name, major, minor, http, numbers, version, largest, rules}
 use Rattle.version.specs.Scan.{point-and-minor, major-part, AfterMajor}
 

@@ -3,7 +3,7 @@ use native.Mathlib.Omega.{arith}
 use borrow.Author.Needs.{needs}
 use mathlib.Core.Path.{sym, ap, _∙_}
 use Rattle.grammar.proofs.Loop.{header-long}
-use Rattle.octets.proofs.Scans.{is-missing}
+use Rattle.scans.proofs.Scans.{is-missing}
 use Rattle.delta.specs.Grammar.{rules}
 use Rattle.delta.specs.Reading.{verdict}
 use Rattle.delta.proofs.Scan.{seconds-missing, seconds-pass, seconds-go-on, seconds-read, seconds-small}

@@ -5,7 +5,7 @@ use borrow.Author.Needs.{needs}
 use mathlib.Core.Path.{_≡_, sym, ap, subst, _∙_}
 use Rattle.grammar.specs.Reading.{refused}
 use Rattle.octets.specs.Bytes.{token?}
-use Rattle.octets.proofs.Scans.{run-is}
+use Rattle.octets.proofs.Runs.{run-is}
 use Rattle.octets.proofs.Tables.{token-bits}
 use Rattle.media.specs.Scan.{StepAt}
 use Rattle.media.proofs.Scan.{value-cut-off, token-none, token-read}

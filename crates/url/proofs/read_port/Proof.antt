@@ -2,7 +2,7 @@
 use native.Mathlib.Omega.{arith}
 use borrow.Author.Needs.{needs}
 use mathlib.Core.Path.{sym, ap, _∙_}
-use Rattle.octets.proofs.Scans.{is-missing}
+use Rattle.scans.proofs.Scans.{is-missing}
 use Rattle.url.specs.Reading.{verdict}
 use Rattle.url.proofs.Scan.{port-absent, port-passes, port-small, port-reads, port-empty}
 use Rattle.url.proofs.read_port.Statement.{statement}

@@ -2,7 +2,8 @@
 use borrow.Author.Needs.{needs}
 use mathlib.Core.Path.{sym, ap, ap₂, subst, _∙_}
 use mathlib.Core.List.{[], _∷_}
-use Rattle.url.specs.Meaning.{resolved, same-text}
+use Rattle.octets.specs.Same.{same?}
+use Rattle.url.specs.Meaning.{resolved}
 use Rattle.url.specs.Places.{Within, path-in}
 use Rattle.url.proofs.same_path.Statement.{statement}
 use Rattle.url.proofs.same_path.Tie as tie
@@ -30,25 +31,25 @@ part-requires-4 c κs =
 returns : tie.Need-returns
 returns c =
     let x = c .before .before .before .before .before .before .args in
-    sym (ap₂ same-text (ap (path-in (x .a .now)) (c .before .before .enum-told .given .1)) (ap (path-in (x .b .now)) (c .enum-told2 .given .1)))
+    sym (ap₂ same? (ap (path-in (x .a .now)) (c .before .before .enum-told .given .1)) (ap (path-in (x .b .now)) (c .enum-told2 .given .1)))
 
 returns-2 : tie.Need-returns-2
 returns-2 c =
     let x = c .before .before .before .before .before .before .before .before .before .before .args in
-    c .same-text .ensures ∙ ap (λ t. same-text (resolved (47 ∷ [])) (resolved t)) (c .before .part .ensures)
-    ∙ sym (ap₂ same-text (ap (path-in (x .a .now)) (c .before .before .before .before .before .before .enum-told .given .1)) (ap (path-in (x .b .now)) (c .before .before .before .before .q .given .1)))
+    c .same-text .ensures ∙ ap (λ t. same? (resolved (47 ∷ [])) (resolved t)) (c .before .part .ensures)
+    ∙ sym (ap₂ same? (ap (path-in (x .a .now)) (c .before .before .before .before .before .before .enum-told .given .1)) (ap (path-in (x .b .now)) (c .before .before .before .before .q .given .1)))
 
 returns-3 : tie.Need-returns-3
 returns-3 c =
     let x = c .before .before .before .before .before .before .before .before .before .before .args in
-    c .same-text2 .ensures ∙ ap (λ t. same-text (resolved t) (resolved (47 ∷ []))) (c .before .before .part2 .ensures)
-    ∙ sym (ap₂ same-text (ap (path-in (x .a .now)) (c .before .before .before .before .before .before .p .given .1)) (ap (path-in (x .b .now)) (c .before .before .before .enum-told3 .given .1)))
+    c .same-text2 .ensures ∙ ap (λ t. same? (resolved t) (resolved (47 ∷ []))) (c .before .before .part2 .ensures)
+    ∙ sym (ap₂ same? (ap (path-in (x .a .now)) (c .before .before .before .before .before .before .p .given .1)) (ap (path-in (x .b .now)) (c .before .before .before .enum-told3 .given .1)))
 
 returns-4 : tie.Need-returns-4
 returns-4 c =
     let x = c .before .before .before .before .before .before .before .before .before .before .before .args in
-    c .same-text3 .ensures ∙ ap₂ (λ t u. same-text (resolved t) (resolved u)) (c .before .before .part3 .ensures) (c .before .part4 .ensures)
-    ∙ sym (ap₂ same-text (ap (path-in (x .a .now)) (c .before .before .before .before .before .before .before .p .given .1)) (ap (path-in (x .b .now)) (c .before .before .before .before .q2 .given .1)))
+    c .same-text3 .ensures ∙ ap₂ (λ t u. same? (resolved t) (resolved u)) (c .before .before .part3 .ensures) (c .before .part4 .ensures)
+    ∙ sym (ap₂ same? (ap (path-in (x .a .now)) (c .before .before .before .before .before .before .before .p .given .1)) (ap (path-in (x .b .now)) (c .before .before .before .before .q2 .given .1)))
 
 pub same-path-spec : {M : Type 1} → statement M
 same-path-spec =

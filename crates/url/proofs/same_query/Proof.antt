@@ -1,7 +1,8 @@
 -- `url::same_query` meets its contract: by the cases of both queries.
 use borrow.Author.Needs.{needs}
 use mathlib.Core.Path.{sym, ap, ap₂, subst, _∙_}
-use Rattle.url.specs.Meaning.{resolved, same-text, same-query}
+use Rattle.octets.specs.Same.{same?}
+use Rattle.url.specs.Meaning.{resolved, same-query}
 use Rattle.url.specs.Places.{Within, query-in}
 use Rattle.url.proofs.same_query.Statement.{statement}
 use Rattle.url.proofs.same_query.Tie as tie
@@ -19,7 +20,7 @@ part-requires-2 c κs =
 returns-4 : tie.Need-returns-4
 returns-4 c =
     let x = c .before .before .before .before .before .before .before .before .before .before .before .args in
-    c .same-text .ensures ∙ ap₂ (λ t u. same-text (resolved t) (resolved u)) (c .before .before .part .ensures) (c .before .part2 .ensures)
+    c .same-text .ensures ∙ ap₂ (λ t u. same? (resolved t) (resolved u)) (c .before .before .part .ensures) (c .before .part2 .ensures)
     ∙ sym (ap₂ same-query (ap (query-in (x .a .now)) (c .before .before .before .before .before .before .before .p .given .1)) (ap (query-in (x .b .now)) (c .before .before .before .before .q .given .1)))
 
 pub same-query-spec : {M : Type 1} → statement M

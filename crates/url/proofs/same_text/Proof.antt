@@ -5,13 +5,14 @@ use borrow.Author.Needs.{needs}
 use borrow.Author.Tests.{ne-eqb, eq-eqb}
 use mathlib.Core.Path.{_≡_, refl, sym, ap, ap₂, _∙_}
 use lib.ListN.{length, drop}
-use Rattle.url.specs.Meaning.{resolved, same-text}
+use Rattle.octets.specs.Same.{same?}
+use Rattle.url.specs.Meaning.{resolved}
 use Rattle.url.proofs.Resolved.{both-ended, first-longer}
 use Rattle.url.proofs.same_text.Statement.{statement}
 use Rattle.url.proofs.same_text.Tie as tie
 
 abbrev Inv-loop : tie.InvT-loop
-Inv-loop a b i₀ j₀ i j = (i ≤ length a) × (j ≤ length b) × (same-text (resolved (drop i a)) (resolved (drop j b)) ≡ same-text (resolved a) (resolved b))
+Inv-loop a b i₀ j₀ i j = (i ≤ length a) × (j ≤ length b) × (same? (resolved (drop i a)) (resolved (drop j b)) ≡ same? (resolved a) (resolved b))
 
 abbrev μ-loop : tie.MeasureT-loop
 μ-loop a b i₀ j₀ i j = length a - i
@@ -31,7 +32,7 @@ returns-2 c =
     let l = d .loop in
     let u = c .before .before .before .before .unit-at in
     let v = c .before .before .before .unit-at2 in
-    sym (ap₂ same-text (u .ensures .is) (v .ensures .is) ∙ rw (ne-eqb (u .result .byte) (v .result .byte) (c .if2 .taken))) ∙ l .inv .2
+    sym (ap₂ same? (u .ensures .is) (v .ensures .is) ∙ rw (ne-eqb (u .result .byte) (v .result .byte) (c .if2 .taken))) ∙ l .inv .2
 
 loop-less : tie.Need-loop-less Inv-loop μ-loop
 loop-less c =
@@ -46,7 +47,7 @@ loop-again c =
     let v = c .before .before .before .unit-at2 in (
       u .ensures .within,
       v .ensures .within,
-      sym (ap₂ same-text (u .ensures .is) (v .ensures .is) ∙ rw (eq-eqb (u .result .byte) (v .result .byte) (c .if2 .left))) ∙ l .inv .2,
+      sym (ap₂ same? (u .ensures .is) (v .ensures .is) ∙ rw (eq-eqb (u .result .byte) (v .result .byte) (c .if2 .left))) ∙ l .inv .2,
     )
 
 returns-3 : tie.Need-returns-3 Inv-loop μ-loop

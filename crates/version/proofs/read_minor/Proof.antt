@@ -2,7 +2,7 @@
 use native.Mathlib.Omega.{arith}
 use borrow.Author.Needs.{needs}
 use mathlib.Core.Path.{sym, ap, _∙_}
-use Rattle.octets.proofs.Scans.{is-missing}
+use Rattle.scans.proofs.Scans.{is-missing}
 use Rattle.version.specs.Reading.{verdict}
 use Rattle.version.proofs.Scan.{point-none, point-not, minor-missing, minor-passes, minor-small, major-small, version-goes-on, version-reads}
 use Rattle.version.proofs.read_minor.Statement.{statement}

@@ -4,7 +4,7 @@ use borrow.Author.Needs.{needs}
 use mathlib.Core.Path.{sym, ap, _∙_}
 use Rattle.grammar.specs.Reading.{refused}
 use Rattle.grammar.proofs.Loop.{header-long}
-use Rattle.octets.proofs.Words.{word-whole, word-inside}
+use Rattle.scans.proofs.Words.{word-whole, word-inside}
 use Rattle.url.specs.Bytes.{host?}
 use Rattle.url.specs.Grammar.{scheme, rules}
 use Rattle.url.specs.Reading.{verdict}

@@ -5,7 +5,7 @@ use borrow.Author.Needs.{needs}
 use mathlib.Core.Path.{_≡_, refl, sym, ap, _∙_}
 use Rattle.grammar.specs.Reading.{refused}
 use Rattle.grammar.proofs.Loop.{header-long}
-use Rattle.octets.proofs.Scans.{is-missing}
+use Rattle.scans.proofs.Scans.{is-missing}
 use Rattle.version.specs.Grammar.{rules}
 use Rattle.version.specs.Reading.{verdict}
 use Rattle.version.proofs.Scan.{name-not, name-is, name-inside, major-missing, major-passes, major-reads}

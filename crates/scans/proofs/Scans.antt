@@ -20,13 +20,14 @@ use Rattle.grammar.specs.Judge.{held}
 use Rattle.grammar.specs.Checks.{ahead}
 use Rattle.grammar.specs.Scans.{slice, from}
 use Rattle.grammar.proofs.Scans.{Run, part-plus, part-plus-none, part-plus-breaks, first-is, first-not, first-none}
 use Rattle.octets.specs.declared.Decimal.{Decimal}
 use Rattle.octets.specs.declared.Decimal.the-variants.{Number, Above, Missing}
 use Rattle.octets.specs.Bytes.{digit?}
 use Rattle.octets.specs.Classes.{DIGIT}
 use Rattle.octets.specs.Runs.{run, run-end}
 use Rattle.octets.specs.Numbers.{grow, digits, number, later, passing, decimal-of, decimal-at, above?, number-limit}
 use Rattle.octets.specs.Case.{agreeing}
+use Rattle.octets.proofs.Runs.{run-is}
 
 or-false : (x : Bool) → (x || false) ≡ x
 or-false true = refl
@@ -38,33 +39,6 @@ either-false false y e = (refl, e)
 
 -- ## Runs
 
-run-inside : (p : ℕ → Bool) (t : List ℕ) (k : ℕ) → k < length (run p t) → p (getD t k 0) ≡ true
-run-inside p [] k h = absurd (omega arith)
-run-inside p (b ∷ t) k h = go (p b) refl k h (run-inside p t)
-  where
-    go : (x : Bool) → p b ≡ x → (n : ℕ) → n < length (cond x (b ∷ run p t) []) → ((j : ℕ) → j < length (run p t) → p (getD t j 0) ≡ true)
-        → p (getD (b ∷ t) n 0) ≡ true
-    go true e zero m f = e
-    go true e (suc n) m f = f n (omega arith)
-    go false e n m f = absurd (omega arith)
-
-run-short : (p : ℕ → Bool) (t : List ℕ) → length (run p t) ≤ length t
-run-short p [] = omega arith
-run-short p (b ∷ t) = go (p b) (run-short p t)
-  where
-    go : (x : Bool) → length (run p t) ≤ length t → length (cond x (b ∷ run p t) []) ≤ suc (length t)
-    go true h = omega arith
-    go false h = omega arith
-
-run-stops : (p : ℕ → Bool) (t : List ℕ) → length (run p t) < length t → p (getD t (length (run p t)) 0) ≡ false
-run-stops p [] h = absurd (omega arith)
-run-stops p (b ∷ t) h = go (p b) refl h (run-stops p t)
-  where
-    go : (x : Bool) → p b ≡ x → length (cond x (b ∷ run p t) []) < suc (length t)
-        → (length (run p t) < length t → p (getD t (length (run p t)) 0) ≡ false) → p (getD (b ∷ t) (length (cond x (b ∷ run p t) [])) 0) ≡ false
-    go true e m f = f (omega arith)
-    go false e m f = e
-
 run-front : (p : ℕ → Bool) (t : List ℕ) (m : ℕ) → m ≤ length (run p t) → take m t ≡ take m (run p t)
 run-front p [] m h = refl
 run-front p (b ∷ t) m h = go (p b) m h (run-front p t)
@@ -75,16 +49,6 @@ run-front p (b ∷ t) m h = go (p b) m h (run-front p t)
     go true (suc n) k f = ap (λ (l : List ℕ). b ∷ l) (f n (omega arith))
     go false zero k f = refl
     go false (suc n) k f = absurd (omega arith)
-
-pub run-is : (p : ℕ → Bool) (s : List ℕ) (i : ℕ) → i ≤ length s → Run p s i (run-end p s i)
-run-is p s i h = record {
-  ordered = omega arith;
-  within = omega (arith, run-short p (drop i s), length-drop i s);
-  inside = λ k a b.
-      let e : i + (k - i) ≡ k = omega arith in
-      subst (λ (n : ℕ). p (getD s n 0) ≡ true) e (subst (λ (x : ℕ). p x ≡ true) (getD-drop i s (k - i) 0) (run-inside p (drop i s) (k - i) (omega arith)));
-  stops = λ a. subst (λ (x : ℕ). p x ≡ false) (getD-drop i s (length (run p (drop i s))) 0) (run-stops p (drop i s) (omega (arith, length-drop i s)));
-}
 
 -- ## Decimal numbers
 
