@@ -8,6 +8,7 @@ use Rattle.media.specs.declared.Charset.{Charset}
 use Rattle.media.specs.declared.Charset.the-variants.{Stated, Latin1, NotStated, Refused}
 use Rattle.media.proofs.Charset.{the-type}
 use Rattle.media.specs.Reading.{charset-verdict}
+use Rattle.host.specs.declared.QzCharset.{QzCharset}
 use Rattle.host.specs.Fields.{charset-fields}
 use Rattle.host.proofs.charset_of.Statement.{statement}
 use Rattle.host.proofs.charset_of.Tie as tie
@@ -24,21 +25,22 @@ is-not-stated Latin1 h = absurd (miss (2 ∷ []) 1 tt h)
 is-not-stated NotStated h = refl
 is-not-stated (Refused r) h = absurd (miss (2 ∷ []) 3 tt h)
 
+abbrev fields : Charset → QzCharset
+fields x = charset-fields (charset-verdict x)
+
 returns : tie.Need-returns
 returns c =
-    c .charset .ensures
-    ∙ sym (ap (λ (x : Charset). charset-fields (charset-verdict x)) (is-not-stated (c .before .before .before .args .c) (c .before .before .match .keys1)))
+    c .charset .ensures ∙ sym (ap fields (is-not-stated (c .before .before .before .args .c) (c .before .before .match .keys1)))
 
 returns-2 : tie.Need-returns-2
-returns-2 c = c .charset2 .ensures ∙ sym (ap (λ (x : Charset). charset-fields (charset-verdict x)) (c .before .before .c .given .1))
+returns-2 c = c .charset2 .ensures ∙ sym (ap fields (c .before .before .c .given .1))
 
 returns-3 : tie.Need-returns-3
 returns-3 c =
-    c .charset3 .ensures
-    ∙ sym (ap (λ (x : Charset). charset-fields (charset-verdict x)) (is-latin-1 (c .before .before .before .args .c) (c .before .before .match .keys3)))
+    c .charset3 .ensures ∙ sym (ap fields (is-latin-1 (c .before .before .before .args .c) (c .before .before .match .keys3)))
 
 returns-4 : tie.Need-returns-4
-returns-4 c = sym (ap (λ (x : Charset). charset-fields (charset-verdict x)) (c .before .c2 .given .1))
+returns-4 c = sym (ap fields (c .before .c2 .given .1))
 
 pub charset-of-spec : {M : Type 1} → statement M
 charset-of-spec =

@@ -15,24 +15,27 @@ use Rattle.host.proofs.qz_media_read.Statement.{statement}
 use Rattle.host.proofs.qz_media_read.Tie as tie
 
 -- an outcome of reading s, with the entries of the table beside it
-fields-are : (s : List ℕ) (r : Reading) (o : Outcome) (entries : List QzParameter) → Answered s r → r .outcome ≡ o → entries ≡ map parameter-fields (r .parameters)
-    → with-table (outcome-verdict o (r .parameters)) entries ≡ media-fields (header rules s)
-fields-are s r o entries a is e =
-    ap (with-table (outcome-verdict o (r .parameters))) (e ∙ ap (map parameter-fields) (a .1))
-    ∙ ap (λ (v : Verdict Media). with-table v (map parameter-fields (table-of (header rules s))))
-    (ap (λ (x : Outcome). outcome-verdict x (r .parameters)) (sym is) ∙ a .0)
+module _ (s : List ℕ) (r : Reading) (answered : Answered s r) (o : Outcome) (is : r .outcome ≡ o) where
+  fields-are : (entries : List QzParameter) → entries ≡ map parameter-fields (r .parameters)
+      → with-table (outcome-verdict o (r .parameters)) entries ≡ media-fields (header rules s)
+  fields-are entries e =
+      ap (with-table (outcome-verdict o (r .parameters))) (e ∙ ap (map parameter-fields) (answered .1))
+      ∙ ap (λ (v : Verdict Media). with-table v (map parameter-fields (table-of (header rules s))))
+      (ap (λ (x : Outcome). outcome-verdict x (r .parameters)) (sym is) ∙ answered .0)
 
 returns : tie.Need-returns
 returns c =
-    let d = c .before .before .before in
-    let z = d .before .before in
-    fields-are (z .before .before .args .s .now) (z .read .result) _ (d .entries-of .result) (z .read .ensures) (c .before .outcome .given .1) (d .entries-of .ensures)
+    let d = c .before .before .before .entries-of in
+    let z = c .before .before .before .before .before in
+    let r = z .read in
+    fields-are (z .before .before .args .s .now) (r .result) (r .ensures) _ (c .before .outcome .given .1) (d .result) (d .ensures)
 
 returns-2 : tie.Need-returns-2
 returns-2 c =
-    let d = c .before .before .before in
-    let z = d .before .before in
-    fields-are (z .before .before .args .s .now) (z .read .result) _ (d .entries-of .result) (z .read .ensures) (c .before .outcome2 .given .1) (d .entries-of .ensures)
+    let d = c .before .before .before .entries-of in
+    let z = c .before .before .before .before .before in
+    let r = z .read in
+    fields-are (z .before .before .args .s .now) (r .result) (r .ensures) _ (c .before .outcome2 .given .1) (d .result) (d .ensures)
 
 pub qz-media-read-spec : {M : Type 1} → statement M
 qz-media-read-spec =
