@@ -166,7 +166,7 @@ fn media_types() {
     let charset = parameter(span(13, 7), span(22, 6), true);
     let q = parameter(span(31, 1), span(34, 0), true);
     assert_eq!(read("text/html \t; charset=\"utf\\-8\" ;q=\"\""), parameters(&[charset, q]));
-    for text in ["text/html", "text/*html", "\u{21}/~"] {
+    for text in ["multipart/byteranges", "multipart/mixed", "multipart/form-data", "!/~"] {
         assert_eq!(read(text).map(|(_, _, parameters)| parameters), Ok(vec![]), "{text}");
     }
     for (text, number, place) in [
