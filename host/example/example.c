@@ -100,6 +100,61 @@ static void show_dates(void)
     show_written("instant 0 in 28 bytes", qz_date_write(0, out, 28));
 }
 
+static void show_media(const char *text)
+{
+    QzMedia m = qz_media_read(bytes(text), strlen(text));
+    size_t i;
+    if (m.number != 0) {
+        show_refusal(text, m.number, m.place);
+        return;
+    }
+    printf("%s: type %.*s, subtype %.*s, %lu parameters", text, (int)m.type_length, text + m.type_start,
+           (int)m.subtype_length, text + m.subtype_start, (unsigned long)m.count);
+    for (i = 0; i < m.count; i++) {
+        QzParameter p = m.parameters[i];
+        printf(", %.*s is %.*s%s", (int)p.length, text + p.start, (int)p.value_length, text + p.value_start,
+               p.quoted ? " in quotes" : "");
+    }
+    printf("\n");
+}
+
+static void show_equal_media(const char *a, const char *b)
+{
+    printf("%s equals ", a);
+    show_same(b, qz_media_equal(bytes(a), strlen(a), bytes(b), strlen(b)));
+}
+
+static void show_charset(const char *text)
+{
+    QzCharset c = qz_media_charset(bytes(text), strlen(text));
+    if (c.number != 0) {
+        show_refusal(text, c.number, c.place);
+        return;
+    }
+    printf("charset of %s: ", text);
+    if (c.kind == QZ_STATED_CHARSET) {
+        printf("%.*s%s\n", (int)c.length, text + c.start, c.quoted ? " in quotes" : "");
+    } else {
+        printf("%s\n", c.kind == QZ_ISO_8859_1 ? "ISO-8859-1" : "none");
+    }
+}
+
+static void show_media_types(void)
+{
+    show_media("text/html; Charset=\"utf\\-8\" ;q=1");
+    show_media("text/html ");
+    show_media("a/b;x=1;X=2");
+    show_media("a/b;a=1;b=1;c=1;d=1;e=1;f=1;g=1;h=1;i=1;j=1;k=1;l=1;m=1;n=1;o=1;p=1;a=1");
+    show_equal_media("text/html;charset=\"utf-8\"", "TEXT/HTML ; Charset=UTF-8");
+    show_equal_media("a/b;x=1;y=2", "a/b;y=2;x=\"1\"");
+    show_equal_media("a/b;x=1;y=2", "a/b;x=1");
+    show_equal_media("a/b", "a/b;");
+    show_charset("text/html;a=b;charset=\"utf-8\"");
+    show_charset("TEXT/html");
+    show_charset("image/gif;a=b");
+    show_charset("text/html;charset =x");
+}
+
 static void show_part(const char *name, const char *text, QzPart p)
 {
     if (p.present) {
@@ -182,6 +237,7 @@ int main(void)
     show_written("1001 thousandths", qz_qvalue_write(1001, out, sizeof out));
 
     show_dates();
+    show_media_types();
     show_urls();
     show_products("CERN-LineMode/2.15 libwww/2.17b3");
     show_products("a (b (c)) (d)");

@@ -21,21 +21,29 @@ extern "C" {
 
 /* The refusal numbers that these functions give. */
 enum {
-    QZ_MALFORMED = 1,          /* place: the length of the longest beginning that some continuation completes */
-    QZ_NUMBER_ABOVE_LIMIT = 2, /* place: the digit that passes it */
-    QZ_NO_SUCH_DATE = 3,       /* no such date or time; place: 0 */
-    QZ_WRONG_DAY_NAME = 4,     /* the day name disagrees with the date; place: 0 */
-    QZ_LINE_TOO_LONG = 5,      /* chunk line above 1,024 bytes; place: its byte 1,025 */
-    QZ_TRAILER_TOO_LONG = 6,   /* trailer above 8,192 bytes; place: its byte 8,193 */
-    QZ_BODY_TOO_LARGE = 7,     /* larger than the output (reader; place: the size digit), above 2^30 bytes (writer; 0) */
-    QZ_OUTPUT_TOO_SHORT = 8,   /* place: 0 */
-    QZ_OUT_OF_RANGE = 9,       /* an argument outside its range; place: 0 */
-    QZ_COMMENT_TOO_DEEP = 12,  /* comment nested deeper than 8; place: the ninth open parenthesis */
-    QZ_VALUE_TOO_LONG = 13     /* header value above 8,192 bytes; place: 8,192 */
+    QZ_MALFORMED = 1,            /* place: the length of the longest beginning that some continuation completes */
+    QZ_NUMBER_ABOVE_LIMIT = 2,   /* place: the digit that passes it */
+    QZ_NO_SUCH_DATE = 3,         /* no such date or time; place: 0 */
+    QZ_WRONG_DAY_NAME = 4,       /* the day name disagrees with the date; place: 0 */
+    QZ_LINE_TOO_LONG = 5,        /* chunk line above 1,024 bytes; place: its byte 1,025 */
+    QZ_TRAILER_TOO_LONG = 6,     /* trailer above 8,192 bytes; place: its byte 8,193 */
+    QZ_BODY_TOO_LARGE = 7,       /* larger than the output (reader; place: the size digit) or 2^30 bytes (writer; 0) */
+    QZ_OUTPUT_TOO_SHORT = 8,     /* place: 0 */
+    QZ_OUT_OF_RANGE = 9,         /* an argument outside its range; place: 0 */
+    QZ_TOO_MANY_PARAMETERS = 10, /* more than 16; place: first byte of the 17th attribute */
+    QZ_REPEATED_ATTRIBUTE = 11,  /* letter case ignored; place: the `=` after the second */
+    QZ_COMMENT_TOO_DEEP = 12,    /* comment nested deeper than 8; place: the ninth open parenthesis */
+    QZ_VALUE_TOO_LONG = 13       /* header value above 8,192 bytes; place: 8,192 */
 };
 
 /* QzOrder.order where number is 0. */
 enum { QZ_LESS = 0, QZ_EQUAL = 1, QZ_GREATER = 2 };
+
+/* QzCharset.kind where number is 0: none, the value of the parameter, ISO-8859-1 for type `text` without it. */
+enum { QZ_NO_CHARSET = 0, QZ_STATED_CHARSET = 1, QZ_ISO_8859_1 = 2 };
+
+/* How many entries QzMedia.parameters has. */
+enum { QZ_PARAMETERS = 16 };
 
 /* QzBody.state. */
 enum { QZ_WHOLE = 0, QZ_MORE = 1, QZ_REFUSED = 2 };
@@ -86,6 +94,35 @@ typedef struct QzDate {
     uint32_t minute;
     uint32_t second;
 } QzDate;
+
+/* An attribute, and its value without its quotes; pairs stay as sent. */
+typedef struct QzParameter {
+    size_t start;
+    size_t length;
+    size_t value_start;
+    size_t value_length;
+    bool quoted;
+} QzParameter;
+
+typedef struct QzMedia {
+    uint8_t number;
+    size_t place;
+    size_t type_start;
+    size_t type_length;
+    size_t subtype_start;
+    size_t subtype_length;
+    size_t count;                          /* how many parameters there are */
+    QzParameter parameters[QZ_PARAMETERS]; /* in the order sent; unused entries are zero */
+} QzMedia;
+
+typedef struct QzCharset {
+    uint8_t number;
+    size_t place;
+    uint8_t kind; /* QZ_NO_CHARSET, QZ_STATED_CHARSET or QZ_ISO_8859_1 */
+    size_t start; /* of a stated charset, without its quotes */
+    size_t length;
+    bool quoted;
+} QzCharset;
 
 /* Where a part stands in the input. */
 typedef struct QzSpan {
@@ -176,6 +213,16 @@ QzDate qz_date_read(const uint8_t *s, size_t s_len);
 
 /* Writes the 29 bytes of the RFC 1123 form; the range is -12,212,553,600 to 253,402,300,799. */
 QzWritten qz_date_write(int64_t seconds, uint8_t *out, size_t out_len);
+
+/* A media type: type `/` subtype, then parameters with blanks around their `;` only. */
+QzMedia qz_media_read(const uint8_t *s, size_t s_len);
+
+/* Reads first `a`, then `b`; `same` where type, subtype and the set of parameters agree: names in any case, values
+ * after unquoting, the value of `charset` in any case. */
+QzSame qz_media_equal(const uint8_t *a, size_t a_len, const uint8_t *b, size_t b_len);
+
+/* The effective charset of a media type. */
+QzCharset qz_media_charset(const uint8_t *s, size_t s_len);
 
 /* An http URL; the port is at most 65,535. */
 QzUrl qz_url_read(const uint8_t *s, size_t s_len);

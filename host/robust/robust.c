@@ -110,6 +110,61 @@ static Answer of_QzDate(QzDate r, const Call *c)
     return answer(r.number, r.place, c->a.length, r.number == 0 ? is_date(r) : none);
 }
 
+static bool is_unused(QzParameter p)
+{
+    return p.start == 0 && p.length == 0 && p.value_start == 0 && p.value_length == 0 && !p.quoted;
+}
+
+/* A value of so many bytes at `start`, in its quotes where it is quoted. */
+static bool is_value(size_t start, size_t length, bool quoted, const Call *c)
+{
+    const uint8_t *bytes = c->a.bytes;
+    return start > 0 && inside(start, length + (quoted ? 1 : 0), c->a.length) &&
+           (quoted ? bytes[start - 1] == '"' && bytes[start + length] == '"' : length > 0 && bytes[start - 1] == '=');
+}
+
+/* A parameter whose attribute begins behind `end`. */
+static bool is_parameter(QzParameter p, size_t end, const Call *c)
+{
+    size_t equals = p.start + p.length;
+    return p.start > end && p.length > 0 && inside(p.start, p.length + 1, c->a.length) && c->a.bytes[equals] == '=' &&
+           p.value_start == equals + (p.quoted ? 2 : 1) && is_value(p.value_start, p.value_length, p.quoted, c);
+}
+
+static bool is_media(const QzMedia *r, const Call *c)
+{
+    size_t end = r->subtype_start + r->subtype_length;
+    bool kept = r->type_start == 0 && r->type_length > 0 && r->subtype_start == r->type_length + 1 &&
+                r->subtype_length > 0 && end <= c->a.length && c->a.bytes[r->type_length] == '/' &&
+                r->count <= QZ_PARAMETERS;
+    size_t i;
+    for (i = 0; kept && i < r->count; i++) {
+        QzParameter p = r->parameters[i];
+        kept = is_parameter(p, end, c);
+        end = p.value_start + p.value_length + (p.quoted ? 1 : 0);
+    }
+    return kept && end == c->a.length;
+}
+
+static Answer of_QzMedia(QzMedia r, const Call *c)
+{
+    bool none = r.type_start == 0 && r.type_length == 0 && r.subtype_start == 0 && r.subtype_length == 0;
+    bool kept = r.number == 0 ? is_media(&r, c) : none && r.count == 0;
+    size_t i;
+    for (i = r.count; kept && i < QZ_PARAMETERS; i++) {
+        kept = is_unused(r.parameters[i]);
+    }
+    return answer(r.number, r.place, c->a.length, kept);
+}
+
+static Answer of_QzCharset(QzCharset r, const Call *c)
+{
+    bool none = r.start == 0 && r.length == 0 && !r.quoted;
+    bool stated = r.kind == QZ_STATED_CHARSET && is_value(r.start, r.length, r.quoted, c);
+    bool other = (r.kind == QZ_NO_CHARSET || r.kind == QZ_ISO_8859_1) && none;
+    return answer(r.number, r.place, c->a.length, r.number == 0 ? stated || other : r.kind == 0 && none);
+}
+
 /* A part that begins at `from` or later, or is absent. */
 static bool is_part(QzPart part, size_t from, const Call *c)
 {
@@ -196,6 +251,12 @@ static const char *const dates[] = {"Sun, 06 Nov 1994 08:49:37 GMT",
                                     "Mon, 29 Feb 1900 24:60:60 GMT",
                                     "Mon, 06 Nov 1994 08:49:37 GMT",
                                     NULL};
+static const char *const media_types[] = {"text/html; charset=ISO-8859-4",
+                                          "TEXT/html ;\tCharset=\"utf\\-8\";q=\"\xff\"",
+                                          "a/b;x=1;y=2;X=\"1\"",
+                                          "a/b;a=1;b=1;c=1;d=1;e=1;f=1;g=1;h=1;i=1;j=1;k=1;l=1;m=1;n=1;o=1;p=1",
+                                          "a/b;a=1;b=1;c=1;d=1;e=1;f=1;g=1;h=1;i=1;j=1;k=1;l=1;m=1;n=1;o=1;p=1;q=1",
+                                          NULL};
 static const char *const urls[] = {"http://abc.com:80/~smith/home.html", "HTTP://ABC.com:/%7esmith/home.html",
                                    "http://a.b:65536", "http://a/b;c=%2F?d&e?f", NULL};
 static const char *const products[] = {"CERN-LineMode/2.15 libwww/2.17b3", "a (b (c\\)) d)\t(\xff)",
@@ -215,6 +276,7 @@ static const char *const texts[] = {"hello", "0\r\n\r\n", NULL};
 #define B c->b.bytes, c->b.length
 #define OUT c->out.bytes, c->out.length
 #define NO(n) (1u << (n))
+#define MEDIA (NO(1) | NO(10) | NO(11) | NO(13))
 
 /* ROW(function, its arguments, its answer, samples of its inputs, the numbers that it may give) */
 #define ENTRIES(ROW)                                                                                                 \
@@ -231,6 +293,9 @@ static const char *const texts[] = {"hello", "0\r\n\r\n", NULL};
     ROW(qz_etag_weak_match, (A, B), QzSame, etags, NO(1) | NO(13))                                                   \
     ROW(qz_date_read, (A), QzDate, dates, NO(1) | NO(3) | NO(4) | NO(13))                                            \
     ROW(qz_date_write, ((int64_t)c->numbers[0], OUT), QzWritten, texts, NO(8) | NO(9))                               \
+    ROW(qz_media_read, (A), QzMedia, media_types, MEDIA)                                                             \
+    ROW(qz_media_equal, (A, B), QzSame, media_types, MEDIA)                                                          \
+    ROW(qz_media_charset, (A), QzCharset, media_types, MEDIA)                                                        \
     ROW(qz_url_read, (A), QzUrl, urls, NO(1) | NO(2) | NO(13))                                                       \
     ROW(qz_url_equal, (A, B), QzSame, urls, NO(1) | NO(2) | NO(13))                                                  \
     ROW(qz_products_read, (A), QzProducts, products, NO(1) | NO(12) | NO(13))                                        \

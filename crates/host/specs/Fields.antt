@@ -1,6 +1,7 @@
 -- Which field of a struct is what.
 use Prim.Native.Nat.{ℕ}
 use mathlib.Core.Bool.{Bool, true, false}
+use mathlib.Core.List.{List, map}
 use lib.IntN.{pos}
 use Rattle.grammar.specs.Reading.{Verdict, value, refused}
 use Rattle.grammar.specs.Comparing.{Comparison, outcome, refused-at}
@@ -12,6 +13,10 @@ use Rattle.delta.specs.declared.Seconds.{Seconds}
 use Rattle.language.specs.declared.Tag as Language
 use Rattle.etag.specs.declared.Tag as Etag
 use Rattle.date.specs.declared.Date.{Date}
+use Rattle.media.specs.declared.Parameter.{Parameter}
+use Rattle.media.specs.Grammar.{Media}
+use Rattle.media.specs.Charset.{Effective, stated, latin-1, no-charset}
+use Rattle.media.specs.Reading.{table-of}
 use Rattle.url.specs.declared.Place.{Place}
 use Rattle.url.specs.declared.Place.the-variants.{Absent, At}
 use Rattle.url.specs.declared.Url.{Url}
@@ -22,6 +27,9 @@ use Rattle.host.specs.declared.QzNumber.{QzNumber}
 use Rattle.host.specs.declared.QzLanguage.{QzLanguage}
 use Rattle.host.specs.declared.QzTag.{QzTag}
 use Rattle.host.specs.declared.QzDate.{QzDate}
+use Rattle.host.specs.declared.QzParameter.{QzParameter}
+use Rattle.host.specs.declared.QzMedia.{QzMedia}
+use Rattle.host.specs.declared.QzCharset.{QzCharset}
 use Rattle.host.specs.declared.QzPart.{QzPart}
 use Rattle.host.specs.declared.QzUrl.{QzUrl}
 use Rattle.host.specs.declared.QzProducts.{QzProducts}
@@ -74,6 +82,54 @@ date-fields (value d) =
     }
 date-fields (refused n p) =
     record { number = n; place = p; seconds = pos 0; year = 0; month = 0; day = 0; hour = 0; minute = 0; second = 0 }
+
+abbrev pub parameter-fields : Parameter → QzParameter
+parameter-fields p = record {
+  start = p .start;
+  length = p .len;
+  «value_start» = p .«value_start»;
+  «value_length» = p .«value_len»;
+  quoted = p .quoted;
+}
+
+abbrev pub with-table : Verdict Media → List QzParameter → QzMedia
+with-table (value m) entries =
+    let n = m .names in
+    record {
+      number = 0;
+      place = 0;
+      «type_start» = n .«type_start»;
+      «type_length» = n .«type_len»;
+      «subtype_start» = n .«subtype_start»;
+      «subtype_length» = n .«subtype_len»;
+      count = n .count;
+      parameters = entries;
+    }
+with-table (refused n p) entries =
+    record {
+      number = n;
+      place = p;
+      «type_start» = 0;
+      «type_length» = 0;
+      «subtype_start» = 0;
+      «subtype_length» = 0;
+      count = 0;
+      parameters = entries;
+    }
+
+-- the table has 16 entries, and those that are not used are zero: all of them where the input was refused
+abbrev pub media-fields : Verdict Media → QzMedia
+media-fields v = with-table v (map parameter-fields (table-of v))
+
+abbrev pub charset-read : (kind start length : ℕ) (quoted : Bool) → QzCharset
+charset-read kind start length quoted =
+    record { number = 0; place = 0; kind = kind; start = start; length = length; quoted = quoted }
+
+abbrev pub charset-fields : Verdict Effective → QzCharset
+charset-fields (value no-charset) = charset-read 0 0 0 false
+charset-fields (value (stated start len quoted)) = charset-read 1 start len quoted
+charset-fields (value latin-1) = charset-read 2 0 0 false
+charset-fields (refused n p) = record { number = n; place = p; kind = 0; start = 0; length = 0; quoted = false }
 
 abbrev pub absent : QzPart
 absent = record { present = false; start = 0; length = 0 }

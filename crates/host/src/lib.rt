@@ -1,5 +1,6 @@
 // What C and Rust link: each function takes a proved answer apart into a struct. Nothing is decided here.
 ghost use mathlib.Core.Path.{_≡_};
+ghost use mathlib.Core.List.{map};
 ghost use lib.ListN.{length};
 ghost use Rattle.grammar.specs.Judge.{header};
 ghost use Rattle.grammar.specs.Comparing.{compare as comparing, outcome, refused-at};
@@ -15,6 +16,9 @@ ghost use Rattle.etag.specs.Grammar.{rules as etags};
 ghost use Rattle.etag.specs.Reading.{strong-matching, weak-matching, comparison as etag-comparison};
 ghost use Rattle.date.specs.Grammar.{rules as dates};
 ghost use Rattle.date.specs.Writing.{writing as date-writing, written-output as date-output};
+ghost use Rattle.media.specs.Grammar.{rules as media-types};
+ghost use Rattle.media.specs.Charset.{charsets};
+ghost use Rattle.media.specs.Reading.{equality as media-equality, comparison as media-comparison, charset-verdict};
 ghost use Rattle.url.specs.Grammar.{rules as urls};
 ghost use Rattle.url.specs.Meaning.{same-page, pages};
 ghost use Rattle.url.specs.Reading.{comparison as url-comparison};
@@ -26,10 +30,14 @@ ghost use Rattle.chunked.specs.Verdict.{verdict};
 ghost use Rattle.host.specs.Fields.{version-fields, order-number, order-fields, seconds-fields};
 ghost use Rattle.host.specs.Fields.{thousandths-fields, language-fields, etag-fields, same-fields};
 ghost use Rattle.host.specs.Fields.{date-fields, url-fields, part-fields, products-fields};
+ghost use Rattle.host.specs.Fields.{parameter-fields, media-fields, charset-read, charset-fields};
 ghost use Rattle.host.specs.Fields.{written-fields, body-fields};
 use chunked::Answer;
 use etag::Matching;
 use language::Equality;
+use media::Charset;
+use media::Outcome;
+use media::Parameter;
 use octets::Refusal;
 use octets::Written;
 use url::Place;
@@ -98,6 +106,40 @@ pub struct QzDate {
     pub second: u32,
 }
 
+// Start and length of an attribute and of its value, a quoted value's without its quotes.
+#[repr(C)]
+pub struct QzParameter {
+    pub start: usize,
+    pub length: usize,
+    pub value_start: usize,
+    pub value_length: usize,
+    pub quoted: bool,
+}
+
+// Start and length of type and subtype, how many parameters there are, and the table of them; its unused entries are zero.
+#[repr(C)]
+pub struct QzMedia {
+    pub number: u8,
+    pub place: usize,
+    pub type_start: usize,
+    pub type_length: usize,
+    pub subtype_start: usize,
+    pub subtype_length: usize,
+    pub count: usize,
+    pub parameters: [QzParameter; 16],
+}
+
+// `kind` is 0 for no charset, 1 for the value that stands at `start`, 2 for ISO-8859-1 without one.
+#[repr(C)]
+pub struct QzCharset {
+    pub number: u8,
+    pub place: usize,
+    pub kind: u8,
+    pub start: usize,
+    pub length: usize,
+    pub quoted: bool,
+}
+
 // Where a part stands in the input.
 #[repr(C)]
 pub struct QzSpan {
@@ -160,6 +202,18 @@ pub struct QzBody {
     pub taken: usize,
     pub length: usize,
 }
+
+// How many entries the table of parameters has.
+const PARAMETERS: usize = 16;
+
+// An entry of the table that is not used.
+const UNUSED: QzParameter = QzParameter {
+    start: 0,
+    length: 0,
+    value_start: 0,
+    value_length: 0,
+    quoted: false,
+};
 
 // A part that is not there.
 const ABSENT: QzPart = QzPart {
@@ -369,6 +423,52 @@ pub extern "C" fn qz_date_write(seconds: i64, out: &mut [u8]) -> QzWritten
 }
 
 #[no_mangle]
+pub extern "C" fn qz_media_read(s: &[u8]) -> QzMedia
+    ensures { λ r. ⌜ r ≡ media-fields (header media-types (now (s .entry))) ⌝ }
+{
+    let reading = media::read(s);
+    let outcome = reading.outcome;
+    let table = reading.parameters;
+    let parameters = entries_of(table);
+    match outcome {
+        Outcome::Read(m) => QzMedia {
+            number: 0,
+            place: 0,
+            type_start: m.type_start,
+            type_length: m.type_len,
+            subtype_start: m.subtype_start,
+            subtype_length: m.subtype_len,
+            count: m.count,
+            parameters,
+        },
+        Outcome::Refused(r) => QzMedia {
+            number: r.number,
+            place: r.place,
+            type_start: 0,
+            type_length: 0,
+            subtype_start: 0,
+            subtype_length: 0,
+            count: 0,
+            parameters,
+        },
+    }
+}
+
+#[no_mangle]
+pub extern "C" fn qz_media_equal(a: &[u8], b: &[u8]) -> QzSame
+    ensures { λ r. ⌜ r ≡ same-fields (media-equality (now (a .entry)) (now (b .entry))) ⌝ }
+{
+    media_equality_of(media::equal(a, b))
+}
+
+#[no_mangle]
+pub extern "C" fn qz_media_charset(s: &[u8]) -> QzCharset
+    ensures { λ r. ⌜ r ≡ charset-fields (header charsets (now (s .entry))) ⌝ }
+{
+    charset_of(media::effective_charset(s))
+}
+
+#[no_mangle]
 pub extern "C" fn qz_url_read(s: &[u8]) -> QzUrl
     ensures { λ r. ⌜ r ≡ url-fields (header urls (now (s .entry))) ⌝ }
 {
@@ -502,6 +602,63 @@ fn body_of(a: Answer) -> QzBody
     }
 }
 
+// The entries of the table, one by one.
+fn entries_of(table: [Parameter; 16]) -> [QzParameter; 16]
+    ensures { λ r. ⌜ r ≡ map parameter-fields table ⌝ }
+{
+    let mut entries = [UNUSED; 16];
+    let mut i = 0;
+    while i < PARAMETERS {
+        entries[i] = parameter_of(table[i]);
+        i += 1;
+    }
+    entries
+}
+
+fn parameter_of(p: Parameter) -> QzParameter
+    ensures { λ r. ⌜ r ≡ parameter-fields p ⌝ }
+{
+    QzParameter {
+        start: p.start,
+        length: p.len,
+        value_start: p.value_start,
+        value_length: p.value_len,
+        quoted: p.quoted,
+    }
+}
+
+fn charset_of(c: Charset) -> QzCharset
+    ensures { λ r. ⌜ r ≡ charset-fields (charset-verdict c) ⌝ }
+{
+    match c {
+        Charset::NotStated => charset(0, 0, 0, false),
+        Charset::Stated { start, len, quoted } => charset(1, start, len, quoted),
+        Charset::Latin1 => charset(2, 0, 0, false),
+        Charset::Refused(r) => QzCharset {
+            number: r.number,
+            place: r.place,
+            kind: 0,
+            start: 0,
+            length: 0,
+            quoted: false,
+        },
+    }
+}
+
+// The charset of a media type that was read.
+fn charset(kind: u8, start: usize, length: usize, quoted: bool) -> QzCharset
+    ensures { λ r. ⌜ r ≡ charset-read kind start length quoted ⌝ }
+{
+    QzCharset {
+        number: 0,
+        place: 0,
+        kind,
+        start,
+        length,
+        quoted,
+    }
+}
+
 fn part_of(p: Place) -> QzPart
     ensures { λ r. ⌜ r ≡ part-fields p ⌝ }
 {
@@ -569,5 +726,16 @@ fn pages_of(c: url::Compared) -> QzSame
         url::Compared::Different => compared(false),
         url::Compared::FirstRefused(r) => one_refused(1, r),
         url::Compared::SecondRefused(r) => one_refused(2, r),
+    }
+}
+
+fn media_equality_of(e: media::Equality) -> QzSame
+    ensures { λ r. ⌜ r ≡ same-fields (media-comparison e) ⌝ }
+{
+    match e {
+        media::Equality::Equal => compared(true),
+        media::Equality::Different => compared(false),
+        media::Equality::FirstRefused(r) => one_refused(1, r),
+        media::Equality::SecondRefused(r) => one_refused(2, r),
     }
 }

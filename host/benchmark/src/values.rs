@@ -61,6 +61,17 @@ const KINDS: &[Kind] = &[
         ]
     ),
     kind!(
+        "media type",
+        quizotepec::media_read,
+        independent::media::read,
+        [
+            b"text/html; charset=ISO-8859-4",
+            b"text/html;charset=\"utf-8\" ; q=0.5",
+            b"image/gif",
+            b"text/html; charset="
+        ]
+    ),
+    kind!(
         "URL",
         quizotepec::url_read,
         independent::url::read,

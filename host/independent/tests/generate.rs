@@ -1,8 +1,11 @@
-//! The generated inputs reach each refusal that document 01 gives to their kind, and no other.
+//! The generated inputs reach each refusal that document 01 gives to their kind, and no other; the pairs reach each
+//! outcome.
 
 use independent::chunked::{decode, Decoded};
-use independent::generate::{any, at_limits, Kind, Rng};
-use std::collections::BTreeSet;
+use independent::generate::{any, at_limits, pair, Kind, Rng};
+use independent::{etag, language, media, url, version, Refused, Which};
+use std::cmp::Ordering;
+use std::collections::{BTreeSet, HashSet};
 
 const ROUNDS: usize = 20_000;
 const ROOMS: usize = 60;
@@ -43,4 +46,25 @@ fn header_values() {
 #[test]
 fn chunked_bodies() {
     reaches(Kind::Chunked, &[0, 1, 5, 6, 7]);
+}
+
+fn compare(kind: Kind, (first, second): (Vec<u8>, Vec<u8>)) -> Result<bool, Refused> {
+    match kind {
+        Kind::Version => version::compare(&first, &second).map(|order| order == Ordering::Equal),
+        Kind::Language => language::equal(&first, &second),
+        Kind::EntityTag => etag::weak_match(&first, &second),
+        Kind::MediaType => media::equal(&first, &second),
+        Kind::Url => url::equal(&first, &second),
+        _ => unreachable!("values of {kind:?} are not compared"),
+    }
+}
+
+#[test]
+fn pairs() {
+    let all = HashSet::from([Ok(true), Ok(false), Err(Which::First), Err(Which::Second)]);
+    for kind in [Kind::Version, Kind::Language, Kind::EntityTag, Kind::MediaType, Kind::Url] {
+        let mut rng = Rng::new(8);
+        let outcome = |_| compare(kind, pair(kind, &mut rng)).map_err(|refused| refused.which);
+        assert_eq!((0..ROUNDS).map(outcome).collect::<HashSet<_>>(), all, "{kind:?}");
+    }
 }

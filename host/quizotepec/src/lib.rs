@@ -72,6 +72,43 @@ pub struct Span {
     pub length: usize,
 }
 
+/// A parameter of a media type.
+#[derive(Clone, Copy, Debug, PartialEq, Eq, Hash)]
+pub struct Parameter {
+    pub attribute: Span,
+    /// Without its quotes where it is quoted; pairs as sent.
+    pub value: Span,
+    pub quoted: bool,
+}
+
+/// A media type.
+#[derive(Clone, Copy, Debug, PartialEq, Eq, Hash)]
+pub struct MediaType {
+    /// The type, which stands before the `/`.
+    pub main: Span,
+    pub subtype: Span,
+    count: usize,
+    table: [Parameter; raw::PARAMETERS],
+}
+
+impl MediaType {
+    /// The parameters in the order sent, at most 16.
+    pub fn parameters(&self) -> &[Parameter] {
+        &self.table[..self.count]
+    }
+}
+
+/// The effective charset of a media type.
+#[derive(Clone, Copy, Debug, PartialEq, Eq, Hash)]
+pub enum Charset {
+    /// The value of the parameter `charset`, as in [`Parameter`].
+    Stated { value: Span, quoted: bool },
+    /// ISO-8859-1, which type `text` has without that parameter.
+    Latin1,
+    /// Another type without it has none.
+    NotStated,
+}
+
 /// An http URL.
 #[derive(Clone, Copy, Debug, PartialEq, Eq, Hash)]
 pub struct Url {
@@ -133,6 +170,14 @@ fn span(s: raw::QzSpan) -> Span {
 
 fn part(p: raw::QzPart) -> Option<Span> {
     p.present.then_some(Span { start: p.start, length: p.length })
+}
+
+fn parameter(p: raw::QzParameter) -> Parameter {
+    Parameter {
+        attribute: Span { start: p.start, length: p.length },
+        value: Span { start: p.value_start, length: p.value_length },
+        quoted: p.quoted,
+    }
 }
 
 /// Reads `HTTP/` digits `.` digits.
@@ -301,6 +346,65 @@ pub fn date_read(value: &[u8]) -> Result<Date, Refusal> {
 pub fn date_write(seconds: i64, out: &mut [u8]) -> Result<usize, Refusal> {
     // SAFETY: the output is borrowed alone and valid for writes of its length.
     written(unsafe { raw::qz_date_write(seconds, out.as_mut_ptr(), out.len()) })
+}
+
+/// Reads a media type: type `/` subtype, then parameters with blanks around their `;` only.
+///
+/// ```
+/// let text = b"text/html; charset=\"utf-8\"";
+/// let media = quizotepec::media_read(text).unwrap();
+/// let bytes = |part: quizotepec::Span| &text[part.start..part.start + part.length];
+/// assert_eq!((bytes(media.main), bytes(media.subtype)), (&b"text"[..], &b"html"[..]));
+/// let [charset] = media.parameters() else { panic!("one parameter") };
+/// assert_eq!((bytes(charset.attribute), bytes(charset.value)), (&b"charset"[..], &b"utf-8"[..]));
+/// assert!(charset.quoted);
+/// // A repeated attribute is refusal 11, at the `=` after the second; a 17th parameter is refusal 10.
+/// let refusal = quizotepec::Refusal { number: 11, place: 9 };
+/// assert_eq!(quizotepec::media_read(b"a/b;x=1;X=2"), Err(refusal));
+/// ```
+pub fn media_read(value: &[u8]) -> Result<MediaType, Refusal> {
+    // SAFETY: the pointer is valid for reads of the length.
+    let m = unsafe { raw::qz_media_read(value.as_ptr(), value.len()) };
+    let media = MediaType {
+        main: Span { start: m.type_start, length: m.type_length },
+        subtype: Span { start: m.subtype_start, length: m.subtype_length },
+        count: m.count,
+        table: m.parameters.map(parameter),
+    };
+    unless_refused(m.number, m.place, media)
+}
+
+/// Reads first one media type, then the other, and says whether they are equal: type, subtype and the set of
+/// parameters agree.
+///
+/// ```
+/// let html = b"text/html;charset=\"utf-8\"";
+/// assert_eq!(quizotepec::media_equal(html, b"TEXT/HTML ; Charset=UTF-8"), Ok(true));
+/// assert_eq!(quizotepec::media_equal(html, b"text/html"), Ok(false));
+/// ```
+pub fn media_equal(first: &[u8], second: &[u8]) -> Result<bool, Refused> {
+    // SAFETY: both pointers are valid for reads of their lengths.
+    same(unsafe { raw::qz_media_equal(first.as_ptr(), first.len(), second.as_ptr(), second.len()) })
+}
+
+/// Reads a media type and gives its effective charset.
+///
+/// ```
+/// use quizotepec::{Charset, Span};
+/// assert_eq!(quizotepec::media_charset(b"text/html"), Ok(Charset::Latin1));
+/// assert_eq!(quizotepec::media_charset(b"image/gif"), Ok(Charset::NotStated));
+/// let value = Span { start: 12, length: 5 };
+/// assert_eq!(quizotepec::media_charset(b"a/b;charset=utf-8"), Ok(Charset::Stated { value, quoted: false }));
+/// ```
+pub fn media_charset(value: &[u8]) -> Result<Charset, Refusal> {
+    // SAFETY: the pointer is valid for reads of the length.
+    let c = unsafe { raw::qz_media_charset(value.as_ptr(), value.len()) };
+    let charset = match c.kind {
+        0 => Charset::NotStated,
+        1 => Charset::Stated { value: Span { start: c.start, length: c.length }, quoted: c.quoted },
+        _ => Charset::Latin1,
+    };
+    unless_refused(c.number, c.place, charset)
 }
 
 /// Reads an http URL.

@@ -68,6 +68,47 @@ pub struct QzDate {
     pub second: u32,
 }
 
+/// How many entries a table of parameters has.
+pub const PARAMETERS: usize = 16;
+
+/// Start and length of an attribute and of its value, a quoted value's without its quotes.
+#[repr(C)]
+#[derive(Clone, Copy, Debug, PartialEq, Eq)]
+pub struct QzParameter {
+    pub start: usize,
+    pub length: usize,
+    pub value_start: usize,
+    pub value_length: usize,
+    pub quoted: bool,
+}
+
+/// Start and length of type and subtype, how many parameters there are, and the table of them; its unused entries
+/// are zero.
+#[repr(C)]
+#[derive(Clone, Copy, Debug, PartialEq, Eq)]
+pub struct QzMedia {
+    pub number: u8,
+    pub place: usize,
+    pub type_start: usize,
+    pub type_length: usize,
+    pub subtype_start: usize,
+    pub subtype_length: usize,
+    pub count: usize,
+    pub parameters: [QzParameter; PARAMETERS],
+}
+
+/// `kind` is 0 for no charset, 1 for the value that stands at `start`, 2 for ISO-8859-1 without one.
+#[repr(C)]
+#[derive(Clone, Copy, Debug, PartialEq, Eq)]
+pub struct QzCharset {
+    pub number: u8,
+    pub place: usize,
+    pub kind: u8,
+    pub start: usize,
+    pub length: usize,
+    pub quoted: bool,
+}
+
 /// Where a part stands in the input.
 #[repr(C)]
 #[derive(Clone, Copy, Debug, PartialEq, Eq)]
@@ -152,6 +193,9 @@ extern "C" {
     pub fn qz_etag_weak_match(a: *const u8, a_len: usize, b: *const u8, b_len: usize) -> QzSame;
     pub fn qz_date_read(s: *const u8, s_len: usize) -> QzDate;
     pub fn qz_date_write(seconds: i64, out: *mut u8, out_len: usize) -> QzWritten;
+    pub fn qz_media_read(s: *const u8, s_len: usize) -> QzMedia;
+    pub fn qz_media_equal(a: *const u8, a_len: usize, b: *const u8, b_len: usize) -> QzSame;
+    pub fn qz_media_charset(s: *const u8, s_len: usize) -> QzCharset;
     pub fn qz_url_read(s: *const u8, s_len: usize) -> QzUrl;
     pub fn qz_url_equal(a: *const u8, a_len: usize, b: *const u8, b_len: usize) -> QzSame;
     pub fn qz_products_read(s: *const u8, s_len: usize) -> QzProducts;

@@ -5,9 +5,9 @@ mod common;
 use common::lend;
 use quizotepec::{
     chunked_decode, chunked_encode, date_read, date_write, delta_read, etag_read, etag_strong_match,
-    etag_weak_match, language_equal, language_read, products_read, qvalue_read, qvalue_write, url_equal,
-    url_read, version_compare, version_read, version_write, Date, Decoded, EntityTag, LanguageTag, Products,
-    Refusal, Refused, Span, Url, Version, Which,
+    etag_weak_match, language_equal, language_read, media_charset, media_equal, media_read, products_read,
+    qvalue_read, qvalue_write, url_equal, url_read, version_compare, version_read, version_write, Charset,
+    Date, Decoded, EntityTag, LanguageTag, Parameter, Products, Refusal, Refused, Span, Url, Version, Which,
 };
 use std::cmp::Ordering;
 
@@ -152,9 +152,103 @@ fn instants() {
     }
 }
 
+fn span(start: usize, length: usize) -> Span {
+    Span { start, length }
+}
+
+#[test]
+fn media_types() {
+    let read = |text: &str| media_read(text.as_bytes()).map(|m| (m.main, m.subtype, m.parameters().to_vec()));
+    let parameter = |attribute, value, quoted| Parameter { attribute, value, quoted };
+    let parameters = |list: &[Parameter]| Ok((span(0, 4), span(5, 4), list.to_vec()));
+    let charset = parameter(span(11, 7), span(19, 10), false);
+    assert_eq!(read("text/html; charset=ISO-8859-4"), parameters(&[charset]));
+    let charset = parameter(span(13, 7), span(22, 6), true);
+    let q = parameter(span(31, 1), span(34, 0), true);
+    assert_eq!(read("text/html \t; charset=\"utf\\-8\" ;q=\"\""), parameters(&[charset, q]));
+    for text in ["multipart/byteranges", "multipart/mixed", "multipart/form-data", "!/~"] {
+        assert_eq!(read(text).map(|(_, _, parameters)| parameters), Ok(vec![]), "{text}");
+    }
+    for (text, number, place) in [
+        ("text/html ", 1, 10),
+        ("text /html", 1, 4),
+        ("text/ html", 1, 5),
+        ("text/html;charset =x", 1, 17),
+        ("text/html;charset= x", 1, 18),
+        ("a/b;x=1;X=2", 11, 9),
+        ("a/b;x=1;X", 1, 9),
+        ("a/b;x=\"", 1, 7),
+        ("a/b;x=\"\r\"", 1, 7),
+        ("a/b;x=\"1\"2", 1, 9),
+        ("a/b;", 1, 4),
+        ("a/b;;x=1", 1, 4),
+        ("a/", 1, 2),
+        ("a", 1, 1),
+        ("/b", 1, 0),
+        ("", 1, 0),
+    ] {
+        assert_eq!(read(text), no(number, place), "{text}");
+    }
+    let long = |length: usize| format!("a/{}", "b".repeat(length - 2));
+    assert_eq!(read(&long(8_192)), Ok((span(0, 1), span(2, 8_190), vec![])));
+    assert_eq!(read(&long(8_193)), no(13, 8_192));
+}
+
+#[test]
+fn parameter_limit() {
+    let with = |count| (0..count).fold("a/b".to_string(), |text, index| format!("{text};p{index}=v"));
+    let read = |text: String| media_read(text.as_bytes()).map(|m| m.parameters().len());
+    let sixteen = with(16);
+    let place = sixteen.len() + 1;
+    assert_eq!(read(sixteen.clone()), Ok(16));
+    assert_eq!(read(with(17)), no(10, place));
+    for tail in ["q", "p0=v", "P0=v", "q=\u{1}"] {
+        assert_eq!(read(format!("{sixteen};{tail}")), no(10, place), "{tail}");
+    }
+    assert_eq!(read(format!("{sixteen};")), no(1, place));
+    assert_eq!(read(format!("{};P0=v", with(15))), no(11, with(15).len() + 3));
+}
+
+#[test]
+fn equal_media_types() {
+    let html = "text/html;charset=\"utf-8\"";
+    for (first, second, equal) in [
+        (html, "TEXT/HTML ; Charset=UTF-8", true),
+        (html, "text/html", false),
+        (html, "text/html;charset=utf-7", false),
+        ("a/b;x=1;y=2", "a/b;y=2;x=\"1\"", true),
+        ("a/b;x=1;y=2", "a/b;x=1", false),
+        ("a/b;x=1", "a/b;x=1;y=2", false),
+        ("a/b;x=\"\\1\"", "a/b;x=1", true),
+        ("a/b;x=\"\\\\\"", "a/b;x=\"\\\\\\\\\"", false),
+        ("a/b;X=1", "a/b;X=2", false),
+        ("a/b;x=a", "a/b;x=A", false),
+        ("a/b;x=\"\"", "a/b", false),
+        ("a/b", "a/c", false),
+        ("a/b", "c/b", false),
+    ] {
+        assert_eq!(media_equal(first.as_bytes(), second.as_bytes()), Ok(equal), "{first} {second}");
+    }
+    let refused = |which, number, place| Err(Refused { which, refusal: Refusal { number, place } });
+    assert_eq!(media_equal(b"a/b;x=1;x=2", b"a"), refused(Which::First, 11, 9));
+    assert_eq!(media_equal(b"a/b", b"a/b;"), refused(Which::Second, 1, 4));
+}
+
+#[test]
+fn charsets() {
+    let stated = |start, length, quoted| Ok(Charset::Stated { value: span(start, length), quoted });
+    assert_eq!(media_charset(b"text/html; charset=ISO-8859-4"), stated(19, 10, false));
+    assert_eq!(media_charset(b"image/gif;CharSet=x"), stated(18, 1, false));
+    assert_eq!(media_charset(b"text/plain;a=b;charset=\"\""), stated(24, 0, true));
+    assert_eq!(media_charset(b"TEXT/plain;charse=x"), Ok(Charset::Latin1));
+    assert_eq!(media_charset(b"texts/plain"), Ok(Charset::NotStated));
+    assert_eq!(media_charset(b"image/gif;a=charset"), Ok(Charset::NotStated));
+    assert_eq!(media_charset(b"text/plain;charset"), no(1, 18));
+    assert_eq!(media_charset(b"text/plain;charset=a;Charset=b"), no(11, 28));
+}
+
 #[test]
 fn urls() {
-    let span = |start, length| Span { start, length };
     let url = |host, port, path, query| Ok(Url { host, port, path, query });
     let some = |start, length| Some(span(start, length));
     let smith = b"http://abc.com:80/~smith/home.html";

@@ -4,11 +4,12 @@ mod common;
 
 use common::{refusal, refused, RANDOM};
 use independent::generate::{any, at_limits, every, pair, short, valid, Kind, Rng, Short};
-use independent::{date, delta, etag, language, products, qvalue, url, version};
+use independent::{date, delta, etag, language, media, products, qvalue, url, version};
 use quizotepec::{
     date_read, delta_read, etag_read, etag_strong_match, etag_weak_match, language_equal, language_read,
-    products_read, qvalue_read, raw, url_equal, url_read, version_compare, version_read, Date, EntityTag,
-    LanguageTag, Products, Refusal, Refused, Span, Url, Version,
+    media_charset, media_equal, media_read, products_read, qvalue_read, raw, url_equal, url_read,
+    version_compare, version_read, Charset, Date, EntityTag, LanguageTag, Parameter, Products, Refusal,
+    Refused, Span, Url, Version,
 };
 use std::fmt::Debug;
 
@@ -18,21 +19,24 @@ type Agree = fn(&[u8]);
 type AgreeOnPair = fn(&[u8], &[u8]);
 
 /// The kinds that are read.
-const READ: [(Kind, Agree); 8] = [
+const READ: [(Kind, Agree); 10] = [
     (Kind::Version, version_agrees),
     (Kind::Delta, delta_agrees),
     (Kind::Qvalue, qvalue_agrees),
     (Kind::Language, language_agrees),
     (Kind::EntityTag, etag_agrees),
     (Kind::Date, date_agrees),
+    (Kind::MediaType, media_agrees),
+    (Kind::MediaType, charset_agrees),
     (Kind::Url, url_agrees),
     (Kind::Products, products_agrees),
 ];
 /// The kinds whose values are compared.
-const COMPARED: [(Kind, AgreeOnPair); 4] = [
+const COMPARED: [(Kind, AgreeOnPair); 5] = [
     (Kind::Version, versions_agree),
     (Kind::Language, languages_agree),
     (Kind::EntityTag, etags_agree),
+    (Kind::MediaType, media_types_agree),
     (Kind::Url, urls_agree),
 ];
 /// How many well-formed values are cut at every place.
@@ -105,8 +109,85 @@ fn date_agrees(input: &[u8]) {
     unused(input, d.number, d.place, &[&[d.seconds as u64], &fields[..]].concat());
 }
 
+fn span(s: independent::Span) -> Span {
+    Span { start: s.start, length: s.length }
+}
+
+const UNUSED: raw::QzParameter =
+    raw::QzParameter { start: 0, length: 0, value_start: 0, value_length: 0, quoted: false };
+const NO_MEDIA: raw::QzMedia = raw::QzMedia {
+    number: 0,
+    place: 0,
+    type_start: 0,
+    type_length: 0,
+    subtype_start: 0,
+    subtype_length: 0,
+    count: 0,
+    parameters: [UNUSED; raw::PARAMETERS],
+};
+const NO_CHARSET: raw::QzCharset =
+    raw::QzCharset { number: 0, place: 0, kind: 0, start: 0, length: 0, quoted: false };
+
+/// Every field of the answer, with all entries of its table.
+fn media_fields(read: &Result<media::MediaType, independent::Refusal>) -> raw::QzMedia {
+    let mut fields = NO_MEDIA;
+    match read {
+        Err(refusal) => (fields.number, fields.place) = (refusal.number, refusal.place),
+        Ok(media) => {
+            (fields.type_start, fields.type_length) = (media.main.start, media.main.length);
+            (fields.subtype_start, fields.subtype_length) = (media.subtype.start, media.subtype.length);
+            fields.count = media.parameters.len();
+            for (entry, sent) in fields.parameters.iter_mut().zip(&media.parameters) {
+                (entry.start, entry.length) = (sent.attribute.start, sent.attribute.length);
+                (entry.value_start, entry.value_length) = (sent.value.start, sent.value.length);
+                entry.quoted = sent.quoted;
+            }
+        }
+    }
+    fields
+}
+
+fn media_agrees(input: &[u8]) {
+    let expected = media::read(input);
+    let fields = unsafe { raw::qz_media_read(input.as_ptr(), input.len()) };
+    assert_eq!(fields, media_fields(&expected), "{input:?}");
+    let parameter = |p: &media::Parameter| Parameter {
+        attribute: span(p.attribute),
+        value: span(p.value),
+        quoted: p.quoted,
+    };
+    let parts = |m: media::MediaType| {
+        (span(m.main), span(m.subtype), m.parameters.iter().map(parameter).collect::<Vec<_>>())
+    };
+    let answer = media_read(input).map(|m| (m.main, m.subtype, m.parameters().to_vec()));
+    alike(input, answer, expected.map(parts));
+}
+
+/// Every field of the answer.
+fn charset_fields(read: Result<media::Charset, independent::Refusal>) -> raw::QzCharset {
+    match read {
+        Err(refusal) => raw::QzCharset { number: refusal.number, place: refusal.place, ..NO_CHARSET },
+        Ok(media::Charset::Given { value, quoted }) => {
+            raw::QzCharset { kind: 1, start: value.start, length: value.length, quoted, ..NO_CHARSET }
+        }
+        Ok(media::Charset::TextDefault) => raw::QzCharset { kind: 2, ..NO_CHARSET },
+        Ok(media::Charset::Absent) => NO_CHARSET,
+    }
+}
+
+fn charset_agrees(input: &[u8]) {
+    let expected = media::effective_charset(input);
+    let fields = unsafe { raw::qz_media_charset(input.as_ptr(), input.len()) };
+    assert_eq!(fields, charset_fields(expected), "{input:?}");
+    let charset = |c: media::Charset| match c {
+        media::Charset::Given { value, quoted } => Charset::Stated { value: span(value), quoted },
+        media::Charset::TextDefault => Charset::Latin1,
+        media::Charset::Absent => Charset::NotStated,
+    };
+    alike(input, media_charset(input), expected.map(charset));
+}
+
 fn url_agrees(input: &[u8]) {
-    let span = |s: independent::Span| Span { start: s.start, length: s.length };
     let url = |u: url::Url| Url {
         host: span(u.host),
         port: u.port,
@@ -180,6 +261,12 @@ fn etags_agree(first: &[u8], second: &[u8]) {
     pair.unused_of(raw::qz_etag_weak_match);
 }
 
+fn media_types_agree(first: &[u8], second: &[u8]) {
+    let pair = Pair(first, second);
+    pair.alike(media_equal(first, second), media::equal(first, second));
+    pair.unused_of(raw::qz_media_equal);
+}
+
 fn urls_agree(first: &[u8], second: &[u8]) {
     let pair = Pair(first, second);
     pair.alike(url_equal(first, second), url::equal(first, second));
@@ -204,6 +291,8 @@ fn every_byte_at_every_place() {
         (date_agrees, "Sun, 06 Nov 1994 08:49:37 GMT"),
         (date_agrees, "Wednesday, 02-Jun-82 00:00:00 GMT"),
         (date_agrees, "Sun Nov  6 08:49:37 1994"),
+        (media_agrees, "a/b; x=1 ;charset=\"\\1\""),
+        (charset_agrees, "a/b; x=1 ;charset=\"\\1\""),
         (url_agrees, "http://a.b-c:8080/~d/%7e?e=%2F?"),
         (products_agrees, "a/1 (b (c) \\)) d"),
     ];
@@ -280,6 +369,16 @@ fn random_dates() {
 }
 
 #[test]
+fn random_media_types() {
+    random(Kind::MediaType, media_agrees, 21);
+}
+
+#[test]
+fn random_charsets() {
+    random(Kind::MediaType, charset_agrees, 22);
+}
+
+#[test]
 fn random_urls() {
     random(Kind::Url, url_agrees, 19);
 }
@@ -308,6 +407,20 @@ fn pairs_of_short_strings() {
         for first in few() {
             few().step_by(7).for_each(|second| agree(first, second));
         }
+    }
+}
+
+/// Every two of the media types with at most two parameters of a few names and values.
+#[test]
+fn pairs_of_media_types() {
+    let values = ["1", "\"1\"", "\"\\1\"", "a", "A", "\"\""];
+    let named = |name| values.map(|value| format!(";{name}={value}"));
+    let one: Vec<_> = ["x", "X", "y", "charset"].into_iter().flat_map(named).collect();
+    let two = one.iter().flat_map(|first| one.iter().map(move |second| format!("{first}{second}")));
+    let parameters = one.iter().cloned().chain(two).chain([String::new()]);
+    let all: Vec<_> = parameters.map(|parameters| format!("a/b{parameters}")).collect();
+    for first in &all {
+        all.iter().for_each(|second| media_types_agree(first.as_bytes(), second.as_bytes()));
     }
 }
 

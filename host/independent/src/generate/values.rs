@@ -31,7 +31,8 @@ pub(super) fn value(kind: Kind, rng: &mut Rng) -> Vec<u8> {
     }
 }
 
-/// Two inputs to compare: mostly two spellings of one meaning, at times a damaged or an unrelated second one.
+/// Two inputs to compare: mostly two spellings of one meaning, at times a damaged or an unrelated second one; of a
+/// media type also one with another value of one parameter.
 /// Kinds that are not compared give two unrelated ones.
 pub fn pair(kind: Kind, rng: &mut Rng) -> (Vec<u8>, Vec<u8>) {
     let (first, second) = two_spellings(kind, rng);
@@ -59,8 +60,10 @@ fn two_spellings(kind: Kind, rng: &mut Rng) -> (Vec<u8>, Vec<u8>) {
             (entity_tag(&content, rng), entity_tag(&content, rng))
         }
         Kind::MediaType => {
-            let media = Media::draw(rng);
-            (media.spell(rng), media.spell(rng))
+            let mut media = Media::draw(rng);
+            let first = media.spell(rng);
+            media.change(rng);
+            (first, media.spell(rng))
         }
         Kind::Url => {
             let url = UrlParts::draw(rng);
@@ -232,6 +235,15 @@ impl Media {
             0 => rng.string(QUOTED, 0, 8),
             1 => rng.pick(&[b"utf-8", b"UTF-8", b"UTF-7"]).to_vec(),
             _ => rng.string(TOKEN, 1, 5),
+        }
+    }
+
+    /// At times another value of one parameter, or the same in another case.
+    fn change(&mut self, rng: &mut Rng) {
+        if !self.parameters.is_empty() && rng.once_in(4) {
+            let at = rng.below(self.parameters.len());
+            let value = &mut self.parameters[at].1;
+            *value = if rng.once_in(2) { any_case(value, rng) } else { Media::value(rng) };
         }
     }
 
