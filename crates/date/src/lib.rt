@@ -47,9 +47,6 @@ struct Places {
 // The bytes of the form that is written.
 const TEXT_LEN: usize = 29;
 
-// The longest header value.
-const VALUE_LIMIT: usize = 8192;
-
 const DAYS: [u8; 21] = *b"MonTueWedThuFriSatSun";
 
 const MONTHS: [u8; 36] = *b"JanFebMarAprMayJunJulAugSepOctNovDec";
@@ -58,8 +55,8 @@ const MONTHS: [u8; 36] = *b"JanFebMarAprMayJunJulAugSepOctNovDec";
 pub fn read(s: &[u8]) -> Reading
     ensures { λ r. ⌜ verdict r ≡ header rules (now (s .entry)) ⌝ }
 {
-    if s.len() > VALUE_LIMIT {
-        return refused(13, VALUE_LIMIT);
+    if s.len() > octets::VALUE_LIMIT {
+        return refused(13, octets::VALUE_LIMIT);
     }
     let day = name_at(&DAYS, s, 0);
     if day >= 7 {

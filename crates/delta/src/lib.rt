@@ -6,9 +6,7 @@ ghost use Rattle.delta.specs.Reading.{verdict};
 use octets::Decimal;
 use octets::Refusal;
 
-// The longest header value, and the largest number of seconds.
-const VALUE_LIMIT: usize = 8192;
-
+// The largest number of seconds.
 const SECONDS_LIMIT: u64 = 2147483647;
 
 pub struct Seconds {
@@ -24,8 +22,8 @@ pub enum Reading {
 pub fn read(s: &[u8]) -> Reading
     ensures { λ r. ⌜ verdict r ≡ header rules (now (s .entry)) ⌝ }
 {
-    if s.len() > VALUE_LIMIT {
-        return refused(13, VALUE_LIMIT);
+    if s.len() > octets::VALUE_LIMIT {
+        return refused(13, octets::VALUE_LIMIT);
     }
     match octets::read_decimal(s, 0, SECONDS_LIMIT) {
         Decimal::Above { place, end: _ } => refused(2, place),

@@ -7,9 +7,6 @@ ghost use Rattle.etag.specs.Reading.{verdict, comparison, weakly, strong
 ghost use Rattle.etag.specs.Scan.{AfterMark, Within};
 use octets::Refusal;
 
-// The longest header value.
-const VALUE_LIMIT: usize = 8192;
-
 // The bytes of `W/`.
 const MARK_LEN: usize = 2;
 
@@ -37,8 +34,8 @@ pub enum Matching {
 pub fn read(s: &[u8]) -> Reading
     ensures { λ r. ⌜ verdict r ≡ header rules (now (s .entry)) ⌝ }
 {
-    if s.len() > VALUE_LIMIT {
-        return refused(13, VALUE_LIMIT);
+    if s.len() > octets::VALUE_LIMIT {
+        return refused(13, octets::VALUE_LIMIT);
     }
     let agreed = octets::word_at(b"W/", s, 0);
     if agreed == 0 {

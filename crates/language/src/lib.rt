@@ -6,9 +6,7 @@ ghost use Rattle.language.specs.Reading.{verdict, comparison, equality};
 ghost use Rattle.language.specs.Scan.{part-end};
 use octets::Refusal;
 
-// The longest header value, and the most letters of a part.
-const VALUE_LIMIT: usize = 8192;
-
+// The most letters of a part.
 const PART_LIMIT: usize = 8;
 
 // How many parts a tag has, and how many letters the first of them has.
@@ -34,8 +32,8 @@ pub enum Equality {
 pub fn read(s: &[u8]) -> Reading
     ensures { λ r. ⌜ verdict r ≡ header rules (now (s .entry)) ⌝ }
 {
-    if s.len() > VALUE_LIMIT {
-        return refused(13, VALUE_LIMIT);
+    if s.len() > octets::VALUE_LIMIT {
+        return refused(13, octets::VALUE_LIMIT);
     }
     let primary = part_end(s, 0);
     if primary == 0 {

@@ -17,10 +17,8 @@ ghost use Rattle.media.specs.Places.{Placed, PlacedParameter, PlacedTabl
 ghost use Rattle.media.specs.Scan.{QuoteAt, Found, NameAt, StepAt, ValueAt};
 use octets::Refusal;
 
-// The longest header value, and how many parameters there may be.
-const VALUE_LIMIT: usize = 8192;
-
-const PARAMETER_LIMIT: usize = 16;
+// How many parameters there may be.
+pub const PARAMETER_LIMIT: usize = 16;
 
 // Start and length of an attribute and of its value, a quoted value's without its quotes.
 pub struct Parameter {
@@ -30,6 +28,9 @@ pub struct Parameter {
     pub value_len: usize,
     pub quoted: bool,
 }
+
+// As many entries as there may be parameters; the unused ones are zero.
+pub type Table = [Parameter; PARAMETER_LIMIT];
 
 // Start and length of type and subtype, and how many parameters there are.
 pub struct MediaType {
@@ -45,10 +46,10 @@ pub enum Outcome {
     Refused(Refusal),
 }
 
-// The outcome, and beside it the table of parameters, whose unused entries are zero.
+// The outcome, and beside it the table of parameters.
 pub struct Reading {
     pub outcome: Outcome,
-    pub parameters: [Parameter; 16],
+    pub parameters: Table,
 }
 
 // Whether two media types given as bytes are equal, or which of them was refused.
@@ -89,8 +90,8 @@ const UNUSED: Parameter = Parameter {
 pub fn read(s: &[u8]) -> Reading
     ensures { λ r. ⌜ Answered (now (s .entry)) r ⌝ }
 {
-    if s.len() > VALUE_LIMIT {
-        return refused(13, VALUE_LIMIT);
+    if s.len() > octets::VALUE_LIMIT {
+        return refused(13, octets::VALUE_LIMIT);
     }
     let slash = octets::class_end(octets::TOKEN, s, 0);
     if slash == 0 {
@@ -150,7 +151,7 @@ fn refused(number: u8, place: usize) -> Reading
     ensures { λ r. ⌜ r ≡ record { outcome = Outcome.Refused (record { number = number; place = place }); parameters = filled [] } ⌝ }
 {
     let outcome = Outcome::Refused(Refusal { number, place });
-    let parameters = [UNUSED; 16];
+    let parameters = [UNUSED; PARAMETER_LIMIT];
     Reading {
         outcome,
         parameters,
@@ -168,7 +169,7 @@ fn read_parameters(s: &[u8], names: MediaType, from: usize) -> Reading
     requires { ⌜ Found (now s) names [] from ⌝ }
     ensures { λ r. ⌜ Answered (now (s .entry)) r ⌝ }
 {
-    let mut parameters = [UNUSED; 16];
+    let mut parameters = [UNUSED; PARAMETER_LIMIT];
     let mut found = names;
     let mut at = from;
     while at < s.len() {
@@ -190,7 +191,7 @@ fn read_parameters(s: &[u8], names: MediaType, from: usize) -> Reading
 }
 
 // Reads the parameter that stands at `at`, behind those that were found.
-fn read_parameter(s: &[u8], found: MediaType, table: [Parameter; 16], at: usize) -> Step
+fn read_parameter(s: &[u8], found: MediaType, table: Table, at: usize) -> Step
     requires { ⌜ Found (now s) found (take (found .count) table) at ⌝ }
     requires { ⌜ at < length (now s) ⌝ }
     ensures { λ r. ⌜ StepAt (now (s .entry)) found (take (found .count) table) at r ⌝ }
@@ -207,7 +208,7 @@ fn read_parameter(s: &[u8], found: MediaType, table: [Parameter; 16], at: usize)
 }
 
 // Reads on from the place where its attribute has to begin.
-fn read_attribute(s: &[u8], found: MediaType, table: [Parameter; 16], start: usize) -> Step
+fn read_attribute(s: &[u8], found: MediaType, table: Table, start: usize) -> Step
     requires { ⌜ NameAt (now s) found (take (found .count) table) start ⌝ }
     ensures { λ r. ⌜ StepAt (now (s .entry)) found (take (found .count) table) start r ⌝ }
 {
@@ -231,7 +232,7 @@ fn read_attribute(s: &[u8], found: MediaType, table: [Parameter; 16], start: usi
 }
 
 // Does one of the first `count` attributes of the table have the name from `start` to `end`?
-fn is_repeated(s: &[u8], start: usize, end: usize, table: [Parameter; 16], count: usize) -> bool
+fn is_repeated(s: &[u8], start: usize, end: usize, table: Table, count: usize) -> bool
     requires { ⌜ start ≤ end ⌝ }
     requires { ⌜ end ≤ length (now s) ⌝ }
     requires { ⌜ PlacedTable (now s) count table ⌝ }
@@ -314,7 +315,7 @@ fn read_quoted(s: &[u8], start: usize, equals: usize) -> Step
 }
 
 // Compares with the media type `b`, which is still to be read, the one that was read from `a`.
-fn equal_to(a: &[u8], m: MediaType, table: [Parameter; 16], b: &[u8]) -> Equality
+fn equal_to(a: &[u8], m: MediaType, table: Table, b: &[u8]) -> Equality
     requires { ⌜ PlacedMedia (now a) m table ⌝ }
     requires { ⌜ header meanings (now a) ≡ G.value (meaning-at (now a) m (take (m .count) table)) ⌝ }
     ensures { λ r. ⌜ comparison r ≡ equality (now (a .entry)) (now (b .entry)) ⌝ }
@@ -334,14 +335,7 @@ fn equal_to(a: &[u8], m: MediaType, table: [Parameter; 16], b: &[u8]) -> Equalit
     }
 }
 
-fn same_media(
-    a: &[u8],
-    m: MediaType,
-    t: [Parameter; 16],
-    b: &[u8],
-    n: MediaType,
-    u: [Parameter; 16],
-) -> bool
+fn same_media(a: &[u8], m: MediaType, t: Table, b: &[u8], n: MediaType, u: Table) -> bool
     requires { ⌜ PlacedMedia (now a) m t ⌝ }
     requires { ⌜ PlacedMedia (now b) n u ⌝ }
     ensures { λ r. ⌜ r ≡ same-meaning (meaning-at (now (a .entry)) m (take (m .count) t)) (meaning-at (now (b .entry)) n (take (n .count) u)) ⌝ }
@@ -381,7 +375,7 @@ fn same_names(a: &[u8], m: MediaType, b: &[u8], n: MediaType) -> bool
 }
 
 // Is each of the first `m` parameters of `a` one of the first `n` of `b`?
-fn all_among(a: &[u8], t: [Parameter; 16], m: usize, b: &[u8], u: [Parameter; 16], n: usize) -> bool
+fn all_among(a: &[u8], t: Table, m: usize, b: &[u8], u: Table, n: usize) -> bool
     requires { ⌜ PlacedTable (now a) m t ⌝ }
     requires { ⌜ PlacedTable (now b) n u ⌝ }
     ensures { λ r. ⌜ r ≡ all-of (settings-at (now (a .entry)) (take m t)) (settings-at (now (b .entry)) (take n u)) ⌝ }
@@ -397,7 +391,7 @@ fn all_among(a: &[u8], t: [Parameter; 16], m: usize, b: &[u8], u: [Parameter; 16
 }
 
 // Is the parameter one of the first `n` of `b`?
-fn is_among(a: &[u8], p: Parameter, b: &[u8], u: [Parameter; 16], n: usize) -> bool
+fn is_among(a: &[u8], p: Parameter, b: &[u8], u: Table, n: usize) -> bool
     requires { ⌜ PlacedParameter (now a) p ⌝ }
     requires { ⌜ PlacedTable (now b) n u ⌝ }
     ensures { λ r. ⌜ r ≡ one-of (setting-at (now (a .entry)) p) (settings-at (now (b .entry)) (take n u)) ⌝ }
@@ -478,7 +472,7 @@ fn plain_place(s: &[u8], i: usize, quoted: bool) -> usize
 }
 
 // The value of `charset`, or what holds without it.
-fn charset_of(s: &[u8], m: MediaType, table: [Parameter; 16]) -> Charset
+fn charset_of(s: &[u8], m: MediaType, table: Table) -> Charset
     requires { ⌜ PlacedMedia (now s) m table ⌝ }
     ensures { λ r. ⌜ charset-verdict r ≡ G.value (effective-at (now (s .entry)) m (take (m .count) table)) ⌝ }
 {

@@ -12,6 +12,9 @@ ghost use Rattle.octets.specs.Case.{alike, agreeing};
 ghost use Rattle.octets.specs.Quoted.{quoted-end};
 ghost use Rattle.octets.specs.Same.{same?};
 
+// The longest header value.
+pub const VALUE_LIMIT: usize = 8192;
+
 // Why an input was refused: document 01's number, and the place it names, counted from 0.
 pub struct Refusal {
     pub number: u8,

@@ -8,9 +8,7 @@ ghost use Rattle.products.specs.Reading.{verdict};
 ghost use Rattle.products.specs.Scan.{CommentAt, ContentAt, PlainAt, Inside, Found, NoComment, ItemAt};
 use octets::Refusal;
 
-// The longest header value, and how many levels of comments may be open.
-const VALUE_LIMIT: usize = 8192;
-
+// How many levels of comments may be open.
 const LEVEL_LIMIT: usize = 8;
 
 // The bytes of a comment's text: HT, 32 to 126 without `(`, `)` and `\`, 128 to 255.
@@ -49,10 +47,10 @@ enum Comment {
 pub fn read(s: &[u8]) -> Reading
     ensures { λ r. ⌜ verdict r ≡ header rules (now (s .entry)) ⌝ }
 {
-    if s.len() > VALUE_LIMIT {
+    if s.len() > octets::VALUE_LIMIT {
         return Reading::Refused(Refusal {
             number: 13,
-            place: VALUE_LIMIT,
+            place: octets::VALUE_LIMIT,
         });
     }
     let mut found = Products {

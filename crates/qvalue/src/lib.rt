@@ -15,9 +15,7 @@ use octets::Class;
 use octets::Refusal;
 use octets::Written;
 
-// The longest header value, and the longest qvalue.
-const VALUE_LIMIT: usize = 8192;
-
+// The longest qvalue.
 const LONGEST: usize = 5;
 
 // The largest qvalue, in thousandths.
@@ -35,8 +33,8 @@ pub enum Reading {
 pub fn read(s: &[u8]) -> Reading
     ensures { λ r. ⌜ verdict r ≡ header rules (now (s .entry)) ⌝ }
 {
-    if s.len() > VALUE_LIMIT {
-        return refused(13, VALUE_LIMIT);
+    if s.len() > octets::VALUE_LIMIT {
+        return refused(13, octets::VALUE_LIMIT);
     }
     if s.len() == 0 {
         return refused(1, 0);

@@ -16,9 +16,7 @@ use octets::Class;
 use octets::Decimal;
 use octets::Refusal;
 
-// The longest header value, and the largest port.
-const VALUE_LIMIT: usize = 8192;
-
+// The largest port.
 const PORT_LIMIT: u64 = 65535;
 
 // The port where a URL names none.
@@ -89,8 +87,8 @@ impl Url {
     pub fn read(s: &[u8]) -> Reading
         ensures { λ r. ⌜ verdict r ≡ header rules (now (s .entry)) ⌝ }
     {
-        if s.len() > VALUE_LIMIT {
-            return refused(13, VALUE_LIMIT);
+        if s.len() > octets::VALUE_LIMIT {
+            return refused(13, octets::VALUE_LIMIT);
         }
         let agreed = octets::word_at(b"http://", s, 0);
         if agreed < SCHEME_LEN {

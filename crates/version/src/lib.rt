@@ -15,9 +15,7 @@ use octets::Decimal;
 use octets::Refusal;
 use octets::Written;
 
-// The longest header value, and the largest number in a version.
-const VALUE_LIMIT: usize = 8192;
-
+// The largest number in a version.
 const NUMBER_LIMIT: u64 = 65535;
 
 // The bytes of the name and its slash.
@@ -74,8 +72,8 @@ impl Version {
     pub fn read(s: &[u8]) -> Reading
         ensures { λ r. ⌜ verdict r ≡ header rules (now (s .entry)) ⌝ }
     {
-        if s.len() > VALUE_LIMIT {
-            return refused(13, VALUE_LIMIT);
+        if s.len() > octets::VALUE_LIMIT {
+            return refused(13, octets::VALUE_LIMIT);
         }
         let agreed = octets::word_at(b"HTTP/", s, 0);
         if agreed < NAME_LEN {
