@@ -5,25 +5,17 @@ use mathlib.Core.List.{List}
 use lib.ListN.{take, drop}
 use Rattle.grammar.specs.Reading as G
 use Rattle.grammar.specs.Reading.{Verdict}
-use Rattle.grammar.specs.Comparing.{Comparison, outcome, refused-at, compare}
+use Rattle.grammar.specs.Comparing.{Comparison, compare}
 use Rattle.grammar.specs.Judge.{header}
 use Rattle.octets.specs.Same.{same?}
 use Rattle.etag.specs.declared.Tag.{Tag}
 use Rattle.etag.specs.declared.Reading.{Reading}
 use Rattle.etag.specs.declared.Reading.the-variants.{Read, Refused}
-use Rattle.etag.specs.declared.Matching.{Matching}
-use Rattle.etag.specs.declared.Matching.the-variants.{Matches, Differs, FirstRefused, SecondRefused}
 use Rattle.etag.specs.Grammar.{rules}
 
 abbrev pub verdict : Reading → Verdict Tag
 verdict (Read v) = G.value v
 verdict (Refused r) = G.refused (r .number) (r .place)
-
-abbrev pub comparison : Matching → Comparison Bool
-comparison Matches = outcome true
-comparison Differs = outcome false
-comparison (FirstRefused r) = refused-at 1 (r .number) (r .place)
-comparison (SecondRefused r) = refused-at 2 (r .number) (r .place)
 
 -- the bytes between the quotes, as sent
 abbrev pub quoted : List ℕ → Tag → List ℕ

@@ -2,9 +2,11 @@
 ghost use mathlib.Core.Path.{_≡_};
 ghost use Rattle.grammar.specs.Comparing.{outcome};
 ghost use Rattle.grammar.specs.Judge.{header};
+ghost use Rattle.octets.specs.Comparing.{comparison};
 ghost use Rattle.etag.specs.Grammar.{rules};
-ghost use Rattle.etag.specs.Reading.{verdict, comparison, weakly, strongly, weak-matching, strong-matching};
+ghost use Rattle.etag.specs.Reading.{verdict, weakly, strongly, weak-matching, strong-matching};
 ghost use Rattle.etag.specs.Scan.{AfterMark, Within};
+use octets::Compared;
 use octets::Refusal;
 
 // The bytes of `W/`.
@@ -20,14 +22,6 @@ pub struct Tag {
 pub enum Reading {
     Read(Tag),
     Refused(Refusal),
-}
-
-// Whether two tags given as bytes match, or which of them was refused.
-pub enum Matching {
-    Matches,
-    Differs,
-    FirstRefused(Refusal),
-    SecondRefused(Refusal),
 }
 
 // An optional `W/` in either letter case, and a quoted string.
@@ -48,26 +42,26 @@ pub fn read(s: &[u8]) -> Reading
 }
 
 // Reads the first, then the second: neither is weak, and the quoted bytes are the same as sent.
-pub fn strong_match(a: &[u8], b: &[u8]) -> Matching
+pub fn strong_match(a: &[u8], b: &[u8]) -> Compared
     ensures { λ r. ⌜ comparison r ≡ strong-matching (now (a .entry)) (now (b .entry)) ⌝ }
 {
     match read(a) {
-        Reading::Refused(r) => Matching::FirstRefused(r),
+        Reading::Refused(r) => Compared::FirstRefused(r),
         Reading::Read(v) => match read(b) {
-            Reading::Refused(r) => Matching::SecondRefused(r),
+            Reading::Refused(r) => Compared::SecondRefused(r),
             Reading::Read(w) => answer(match_strongly(a, v, b, w)),
         },
     }
 }
 
 // Reads the first, then the second: the quoted bytes are the same as sent.
-pub fn weak_match(a: &[u8], b: &[u8]) -> Matching
+pub fn weak_match(a: &[u8], b: &[u8]) -> Compared
     ensures { λ r. ⌜ comparison r ≡ weak-matching (now (a .entry)) (now (b .entry)) ⌝ }
 {
     match read(a) {
-        Reading::Refused(r) => Matching::FirstRefused(r),
+        Reading::Refused(r) => Compared::FirstRefused(r),
         Reading::Read(v) => match read(b) {
-            Reading::Refused(r) => Matching::SecondRefused(r),
+            Reading::Refused(r) => Compared::SecondRefused(r),
             Reading::Read(w) => answer(match_weakly(a, v, b, w)),
         },
     }
@@ -79,13 +73,13 @@ fn refused(number: u8, place: usize) -> Reading
     Reading::Refused(Refusal { number, place })
 }
 
-fn answer(same: bool) -> Matching
+fn answer(same: bool) -> Compared
     ensures { λ r. ⌜ comparison r ≡ outcome same ⌝ }
 {
     if same {
-        Matching::Matches
+        Compared::Same
     } else {
-        Matching::Differs
+        Compared::Different
     }
 }
 

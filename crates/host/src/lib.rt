@@ -11,20 +11,20 @@ ghost use Rattle.delta.specs.Grammar.{rules as deltas};
 ghost use Rattle.qvalue.specs.Grammar.{rules as qvalues};
 ghost use Rattle.qvalue.specs.Writing.{written-qvalue, qvalue-output};
 ghost use Rattle.language.specs.Grammar.{rules as languages};
-ghost use Rattle.language.specs.Reading.{equality, comparison as language-comparison};
+ghost use Rattle.language.specs.Reading.{equality};
 ghost use Rattle.etag.specs.Grammar.{rules as etags};
-ghost use Rattle.etag.specs.Reading.{strong-matching, weak-matching, comparison as etag-comparison};
+ghost use Rattle.etag.specs.Reading.{strong-matching, weak-matching};
 ghost use Rattle.date.specs.Grammar.{rules as dates};
 ghost use Rattle.date.specs.Writing.{writing as date-writing, written-output as date-output};
 ghost use Rattle.media.specs.Grammar.{rules as media-types};
 ghost use Rattle.media.specs.Charset.{charsets};
-ghost use Rattle.media.specs.Reading.{equality as media-equality, comparison as media-comparison, charset-verdict};
+ghost use Rattle.media.specs.Reading.{equality as media-equality, charset-verdict};
 ghost use Rattle.url.specs.Grammar.{rules as urls};
 ghost use Rattle.url.specs.Meaning.{same-page, pages};
-ghost use Rattle.url.specs.Reading.{comparison as url-comparison};
 ghost use Rattle.products.specs.Grammar.{rules as product-lists};
 ghost use Rattle.framing.specs.Reading.{decode as decoding, after as decoded-output};
 ghost use Rattle.chunk_writer.specs.Writing.{answered as encoding, after as encoded-output};
+ghost use Rattle.octets.specs.Comparing.{comparison};
 ghost use Rattle.octets.specs.Writing.{written};
 ghost use Rattle.chunked.specs.Verdict.{verdict};
 ghost use Rattle.host.specs.Fields.{version-fields, order-number, order-fields, seconds-fields};
@@ -33,8 +33,6 @@ ghost use Rattle.host.specs.Fields.{date-fields, url-fields, part-fields
 ghost use Rattle.host.specs.Fields.{parameter-fields, media-fields, charset-read, charset-fields};
 ghost use Rattle.host.specs.Fields.{written-fields, body-fields};
 use chunked::Answer;
-use etag::Matching;
-use language::Equality;
 use media::Charset;
 use media::Outcome;
 use media::Parameter;
@@ -345,7 +343,7 @@ pub extern "C" fn qz_language_read(s: &[u8]) -> QzLanguage
 pub extern "C" fn qz_language_equal(a: &[u8], b: &[u8]) -> QzSame
     ensures { λ r. ⌜ r ≡ same-fields (equality (now (a .entry)) (now (b .entry))) ⌝ }
 {
-    equality_of(language::equal(a, b))
+    same_of(language::equal(a, b))
 }
 
 #[no_mangle]
@@ -374,14 +372,14 @@ pub extern "C" fn qz_etag_read(s: &[u8]) -> QzTag
 pub extern "C" fn qz_etag_strong_match(a: &[u8], b: &[u8]) -> QzSame
     ensures { λ r. ⌜ r ≡ same-fields (strong-matching (now (a .entry)) (now (b .entry))) ⌝ }
 {
-    matching_of(etag::strong_match(a, b))
+    same_of(etag::strong_match(a, b))
 }
 
 #[no_mangle]
 pub extern "C" fn qz_etag_weak_match(a: &[u8], b: &[u8]) -> QzSame
     ensures { λ r. ⌜ r ≡ same-fields (weak-matching (now (a .entry)) (now (b .entry))) ⌝ }
 {
-    matching_of(etag::weak_match(a, b))
+    same_of(etag::weak_match(a, b))
 }
 
 #[no_mangle]
@@ -458,7 +456,7 @@ pub extern "C" fn qz_media_read(s: &[u8]) -> QzMedia
 pub extern "C" fn qz_media_equal(a: &[u8], b: &[u8]) -> QzSame
     ensures { λ r. ⌜ r ≡ same-fields (media-equality (now (a .entry)) (now (b .entry))) ⌝ }
 {
-    media_equality_of(media::equal(a, b))
+    same_of(media::equal(a, b))
 }
 
 #[no_mangle]
@@ -506,7 +504,7 @@ pub extern "C" fn qz_url_read(s: &[u8]) -> QzUrl
 pub extern "C" fn qz_url_equal(a: &[u8], b: &[u8]) -> QzSame
     ensures { λ r. ⌜ r ≡ same-fields (comparing same-page (header pages (now (a .entry))) (header pages (now (b .entry)))) ⌝ }
 {
-    pages_of(Url::compare_bytes(a, b))
+    same_of(Url::compare_bytes(a, b))
 }
 
 #[no_mangle]
@@ -696,46 +694,13 @@ fn one_refused(which: u8, r: Refusal) -> QzSame
     }
 }
 
-fn equality_of(e: Equality) -> QzSame
-    ensures { λ r. ⌜ r ≡ same-fields (language-comparison e) ⌝ }
-{
-    match e {
-        Equality::Equal => compared(true),
-        Equality::Different => compared(false),
-        Equality::FirstRefused(r) => one_refused(1, r),
-        Equality::SecondRefused(r) => one_refused(2, r),
-    }
-}
-
-fn matching_of(m: Matching) -> QzSame
-    ensures { λ r. ⌜ r ≡ same-fields (etag-comparison m) ⌝ }
-{
-    match m {
-        Matching::Matches => compared(true),
-        Matching::Differs => compared(false),
-        Matching::FirstRefused(r) => one_refused(1, r),
-        Matching::SecondRefused(r) => one_refused(2, r),
-    }
-}
-
-fn pages_of(c: url::Compared) -> QzSame
-    ensures { λ r. ⌜ r ≡ same-fields (url-comparison c) ⌝ }
+fn same_of(c: octets::Compared) -> QzSame
+    ensures { λ r. ⌜ r ≡ same-fields (comparison c) ⌝ }
 {
     match c {
-        url::Compared::Equal => compared(true),
-        url::Compared::Different => compared(false),
-        url::Compared::FirstRefused(r) => one_refused(1, r),
-        url::Compared::SecondRefused(r) => one_refused(2, r),
-    }
-}
-
-fn media_equality_of(e: media::Equality) -> QzSame
-    ensures { λ r. ⌜ r ≡ same-fields (media-comparison e) ⌝ }
-{
-    match e {
-        media::Equality::Equal => compared(true),
-        media::Equality::Different => compared(false),
-        media::Equality::FirstRefused(r) => one_refused(1, r),
-        media::Equality::SecondRefused(r) => one_refused(2, r),
+        octets::Compared::Same => compared(true),
+        octets::Compared::Different => compared(false),
+        octets::Compared::FirstRefused(r) => one_refused(1, r),
+        octets::Compared::SecondRefused(r) => one_refused(2, r),
     }
 }

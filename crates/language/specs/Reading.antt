@@ -4,25 +4,17 @@ use mathlib.Core.Bool.{Bool, true, false}
 use mathlib.Core.List.{List}
 use Rattle.grammar.specs.Reading as G
 use Rattle.grammar.specs.Reading.{Verdict}
-use Rattle.grammar.specs.Comparing.{Comparison, outcome, refused-at, compare}
+use Rattle.grammar.specs.Comparing.{Comparison, compare}
 use Rattle.grammar.specs.Judge.{header}
 use Rattle.octets.specs.Case.{alike}
 use Rattle.language.specs.declared.Tag.{Tag}
 use Rattle.language.specs.declared.Reading.{Reading}
 use Rattle.language.specs.declared.Reading.the-variants.{Read, Refused}
-use Rattle.language.specs.declared.Equality.{Equality}
-use Rattle.language.specs.declared.Equality.the-variants.{Equal, Different, FirstRefused, SecondRefused}
 use Rattle.language.specs.Grammar.{rules}
 
 abbrev pub verdict : Reading → Verdict Tag
 verdict (Read v) = G.value v
 verdict (Refused r) = G.refused (r .number) (r .place)
-
-abbrev pub comparison : Equality → Comparison Bool
-comparison Equal = outcome true
-comparison Different = outcome false
-comparison (FirstRefused r) = refused-at 1 (r .number) (r .place)
-comparison (SecondRefused r) = refused-at 2 (r .number) (r .place)
 
 -- "equality ignores case": of two tags, what is compared is their bytes
 abbrev pub equality : List ℕ → List ℕ → Comparison Bool

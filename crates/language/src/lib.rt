@@ -1,9 +1,11 @@
 // Language tags: RFC 2616 3.10.
 ghost use mathlib.Core.Path.{_≡_};
 ghost use Rattle.grammar.specs.Judge.{header};
+ghost use Rattle.octets.specs.Comparing.{comparison};
 ghost use Rattle.language.specs.Grammar.{rules};
-ghost use Rattle.language.specs.Reading.{verdict, comparison, equality};
+ghost use Rattle.language.specs.Reading.{verdict, equality};
 ghost use Rattle.language.specs.Scan.{part-end};
+use octets::Compared;
 use octets::Refusal;
 
 // The most letters of a part.
@@ -18,14 +20,6 @@ pub struct Tag {
 pub enum Reading {
     Read(Tag),
     Refused(Refusal),
-}
-
-// Whether two tags given as bytes are equal, or which of them was refused.
-pub enum Equality {
-    Equal,
-    Different,
-    FirstRefused(Refusal),
-    SecondRefused(Refusal),
 }
 
 // Parts of 1 to 8 letters joined by `-`.
@@ -59,18 +53,18 @@ pub fn read(s: &[u8]) -> Reading
 }
 
 // Reads the first, then the second, and compares them, letter case ignored.
-pub fn equal(a: &[u8], b: &[u8]) -> Equality
+pub fn equal(a: &[u8], b: &[u8]) -> Compared
     ensures { λ r. ⌜ comparison r ≡ equality (now (a .entry)) (now (b .entry)) ⌝ }
 {
     match read(a) {
-        Reading::Refused(r) => Equality::FirstRefused(r),
+        Reading::Refused(r) => Compared::FirstRefused(r),
         Reading::Read(_) => match read(b) {
-            Reading::Refused(r) => Equality::SecondRefused(r),
+            Reading::Refused(r) => Compared::SecondRefused(r),
             Reading::Read(_) => {
                 if octets::same_ignoring_case(a, b) {
-                    Equality::Equal
+                    Compared::Same
                 } else {
-                    Equality::Different
+                    Compared::Different
                 }
             }
         },

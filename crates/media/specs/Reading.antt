@@ -7,13 +7,11 @@ use lib.ListN.{take}
 use Rattle.grammar.specs.Reading as G
 use Rattle.grammar.specs.Reading.{Verdict}
 use Rattle.grammar.specs.Judge.{header}
-use Rattle.grammar.specs.Comparing.{Comparison, outcome, refused-at, compare}
+use Rattle.grammar.specs.Comparing.{Comparison, compare}
 use Rattle.media.specs.declared.Parameter.{Parameter}
 use Rattle.media.specs.declared.Outcome.{Outcome}
 use Rattle.media.specs.declared.Outcome.the-variants.{Read, Refused}
 use Rattle.media.specs.declared.Reading.{Reading}
-use Rattle.media.specs.declared.Equality.{Equality}
-use Rattle.media.specs.declared.Equality.the-variants.{Equal, Different, FirstRefused, SecondRefused}
 use Rattle.media.specs.declared.Charset.{Charset}
 use Rattle.media.specs.declared.Charset.the-variants as C
 use Rattle.media.specs.Grammar.{parameter-limit, Media, rules}
@@ -48,12 +46,6 @@ table-of (G.refused n p) = filled []
 -- the whole answer to s
 abbrev pub Answered : List ℕ → Reading → Type 0
 Answered s r = (verdict r ≡ header rules s) × (r .parameters ≡ table-of (header rules s))
-
-abbrev pub comparison : Equality → Comparison Bool
-comparison Equal = outcome true
-comparison Different = outcome false
-comparison (FirstRefused r) = refused-at 1 (r .number) (r .place)
-comparison (SecondRefused r) = refused-at 2 (r .number) (r .place)
 
 -- "Comparisons of .. media types given as bytes do the same": it reads first one, then the other, and compares what they mean
 abbrev pub equality : (a b : List ℕ) → Comparison Bool

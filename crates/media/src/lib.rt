@@ -7,14 +7,16 @@ ghost use Rattle.grammar.specs.Judge.{header};
 ghost use Rattle.grammar.specs.Reading as G;
 ghost use Rattle.grammar.specs.Scans.{slice};
 ghost use Rattle.octets.specs.Case.{alike};
+ghost use Rattle.octets.specs.Comparing.{comparison};
 ghost use Rattle.media.specs.Grammar.{rules, among, parameter-limit};
 ghost use Rattle.media.specs.Meaning.{plain, same-text, same-setting, one-of, all-of, meanings, same-meaning};
 ghost use Rattle.media.specs.Charset.{charsets};
-ghost use Rattle.media.specs.Reading.{filled, Answered, comparison, equality, charset-verdict};
+ghost use Rattle.media.specs.Reading.{filled, Answered, equality, charset-verdict};
 ghost use Rattle.media.specs.Places.{names-at, setting-at, settings-at, meaning-at, effective-at};
 ghost use Rattle.media.specs.Places.{part-at, same-names, same-byte, PlainAt};
 ghost use Rattle.media.specs.Places.{Placed, PlacedParameter, PlacedTable, NamesWithin, PlacedMedia};
 ghost use Rattle.media.specs.Scan.{QuoteAt, Found, NameAt, StepAt, ValueAt};
+use octets::Compared;
 use octets::Refusal;
 
 // How many parameters there may be.
@@ -50,14 +52,6 @@ pub enum Outcome {
 pub struct Reading {
     pub outcome: Outcome,
     pub parameters: Table,
-}
-
-// Whether two media types given as bytes are equal, or which of them was refused.
-pub enum Equality {
-    Equal,
-    Different,
-    FirstRefused(Refusal),
-    SecondRefused(Refusal),
 }
 
 // The effective charset: where the parameter's value stands; ISO-8859-1 for `text` without it; none for other types.
@@ -119,13 +113,13 @@ pub fn read(s: &[u8]) -> Reading
 }
 
 // Reads the first, then the second, and compares what they mean.
-pub fn equal(a: &[u8], b: &[u8]) -> Equality
+pub fn equal(a: &[u8], b: &[u8]) -> Compared
     ensures { λ r. ⌜ comparison r ≡ equality (now (a .entry)) (now (b .entry)) ⌝ }
 {
     let first = read(a);
     let outcome = first.outcome;
     match outcome {
-        Outcome::Refused(r) => Equality::FirstRefused(r),
+        Outcome::Refused(r) => Compared::FirstRefused(r),
         Outcome::Read(m) => {
             let table = first.parameters;
             equal_to(a, m, table, b)
@@ -315,7 +309,7 @@ fn read_quoted(s: &[u8], start: usize, equals: usize) -> Step
 }
 
 // Compares with the media type `b`, which is still to be read, the one that was read from `a`.
-fn equal_to(a: &[u8], m: MediaType, table: Table, b: &[u8]) -> Equality
+fn equal_to(a: &[u8], m: MediaType, table: Table, b: &[u8]) -> Compared
     requires { ⌜ PlacedMedia (now a) m table ⌝ }
     requires { ⌜ header meanings (now a) ≡ G.value (meaning-at (now a) m (take (m .count) table)) ⌝ }
     ensures { λ r. ⌜ comparison r ≡ equality (now (a .entry)) (now (b .entry)) ⌝ }
@@ -323,13 +317,13 @@ fn equal_to(a: &[u8], m: MediaType, table: Table, b: &[u8]) -> Equality
     let second = read(b);
     let outcome = second.outcome;
     match outcome {
-        Outcome::Refused(r) => Equality::SecondRefused(r),
+        Outcome::Refused(r) => Compared::SecondRefused(r),
         Outcome::Read(n) => {
             let other = second.parameters;
             if same_media(a, m, table, b, n, other) {
-                Equality::Equal
+                Compared::Same
             } else {
-                Equality::Different
+                Compared::Different
             }
         }
     }

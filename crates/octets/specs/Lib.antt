@@ -7,3 +7,4 @@ pub mod Writing
 pub mod Quoted
 pub mod Same
 pub mod Shapes
+pub mod Comparing

@@ -27,6 +27,14 @@ pub enum Written {
     Refused(Refusal),
 }
 
+// Whether two values given as bytes are the same in the sense of their comparison, or which of them was refused.
+pub enum Compared {
+    Same,
+    Different,
+    FirstRefused(Refusal),
+    SecondRefused(Refusal),
+}
+
 // A run of decimal digits under a limit: the number and the place behind the run; the digit that passes the limit; no digit.
 pub enum Decimal {
     Number { value: u64, end: usize },

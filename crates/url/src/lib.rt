@@ -6,13 +6,15 @@ ghost use lib.ListN.{length};
 ghost use Rattle.grammar.specs.Comparing.{compare as comparing};
 ghost use Rattle.grammar.specs.Judge.{header};
 ghost use Rattle.octets.specs.Runs.{Bits};
+ghost use Rattle.octets.specs.Comparing.{comparison};
 ghost use Rattle.url.specs.Grammar.{rules};
 ghost use Rattle.octets.specs.Same.{same?};
 ghost use Rattle.url.specs.Meaning.{resolved, same-query, same-page, pages};
 ghost use Rattle.url.specs.Places.{Resolves, piece, Inside, Within, path-in, query-in, page-in, Placed};
-ghost use Rattle.url.specs.Reading.{verdict, refusal-of, comparison};
+ghost use Rattle.url.specs.Reading.{verdict, refusal-of};
 ghost use Rattle.url.specs.Scan.{Hexes, Found, AfterHost, BeforePath, BeforeQuery};
 use octets::Class;
+use octets::Compared;
 use octets::Decimal;
 use octets::Refusal;
 
@@ -62,14 +64,6 @@ pub enum Reading {
     Refused(Refusal),
 }
 
-// Whether two URLs given as bytes are equal, or which of them was refused.
-pub enum Compared {
-    Equal,
-    Different,
-    FirstRefused(Refusal),
-    SecondRefused(Refusal),
-}
-
 // A byte of a text as it is compared, and the place behind it.
 struct Unit {
     byte: u8,
@@ -114,7 +108,7 @@ impl Url {
             return Compared::SecondRefused(refusal(second));
         };
         if same_url(a, u, b, v) {
-            Compared::Equal
+            Compared::Same
         } else {
             Compared::Different
         }

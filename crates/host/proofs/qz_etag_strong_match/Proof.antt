@@ -6,7 +6,7 @@ use Rattle.host.proofs.qz_etag_strong_match.Statement.{statement}
 use Rattle.host.proofs.qz_etag_strong_match.Tie as tie
 
 returns : tie.Need-returns
-returns c = c .matching-of .ensures ∙ ap same-fields (c .before .strong-match .ensures)
+returns c = c .same-of .ensures ∙ ap same-fields (c .before .strong-match .ensures)
 
 pub qz-etag-strong-match-spec : {M : Type 1} → statement M
 qz-etag-strong-match-spec =

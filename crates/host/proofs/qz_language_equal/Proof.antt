@@ -6,7 +6,7 @@ use Rattle.host.proofs.qz_language_equal.Statement.{statement}
 use Rattle.host.proofs.qz_language_equal.Tie as tie
 
 returns : tie.Need-returns
-returns c = c .equality-of .ensures ∙ ap same-fields (c .before .equal .ensures)
+returns c = c .same-of .ensures ∙ ap same-fields (c .before .equal .ensures)
 
 pub qz-language-equal-spec : {M : Type 1} → statement M
 qz-language-equal-spec =

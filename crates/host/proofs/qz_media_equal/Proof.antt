@@ -6,7 +6,7 @@ use Rattle.host.proofs.qz_media_equal.Statement.{statement}
 use Rattle.host.proofs.qz_media_equal.Tie as tie
 
 returns : tie.Need-returns
-returns c = c .media-equality-of .ensures ∙ ap same-fields (c .before .equal .ensures)
+returns c = c .same-of .ensures ∙ ap same-fields (c .before .equal .ensures)
 
 pub qz-media-equal-spec : {M : Type 1} → statement M
 qz-media-equal-spec =

@@ -6,7 +6,7 @@ use Rattle.host.proofs.qz_url_equal.Statement.{statement}
 use Rattle.host.proofs.qz_url_equal.Tie as tie
 
 returns : tie.Need-returns
-returns c = c .pages-of .ensures ∙ ap same-fields (c .before .compare-bytes .ensures)
+returns c = c .same-of .ensures ∙ ap same-fields (c .before .compare-bytes .ensures)
 
 pub qz-url-equal-spec : {M : Type 1} → statement M
 qz-url-equal-spec =

@@ -1,25 +1,25 @@
--- `host::pages_of` meets its contract.
+-- `host::same_of` meets its contract.
 use borrow.Author.Needs.{needs}
 use mathlib.Core.Path.{_≡_, refl, sym, ap, _∙_}
 use mathlib.Core.List.{[], _∷_}
 use denote.Enum.Declared.{tagOf}
 use types.Run.{OneOf, miss}
-use Rattle.url.specs.declared.Compared.{Compared}
-use Rattle.url.specs.declared.Compared.the-variants.{Equal, Different, FirstRefused, SecondRefused}
-use Rattle.url.proofs.Compared.{the-type}
-use Rattle.url.specs.Reading.{comparison}
+use Rattle.octets.specs.declared.Compared.{Compared}
+use Rattle.octets.specs.declared.Compared.the-variants.{Same, Different, FirstRefused, SecondRefused}
+use Rattle.octets.proofs.Compared.{the-type}
+use Rattle.octets.specs.Comparing.{comparison}
 use Rattle.host.specs.Fields.{same-fields}
-use Rattle.host.proofs.pages_of.Statement.{statement}
-use Rattle.host.proofs.pages_of.Tie as tie
+use Rattle.host.proofs.same_of.Statement.{statement}
+use Rattle.host.proofs.same_of.Tie as tie
 
-is-equal : (x : Compared) → OneOf (0 ∷ []) (tagOf the-type x) → x ≡ Equal
-is-equal Equal h = refl
-is-equal Different h = absurd (miss (0 ∷ []) 1 tt h)
-is-equal (FirstRefused r) h = absurd (miss (0 ∷ []) 2 tt h)
-is-equal (SecondRefused r) h = absurd (miss (0 ∷ []) 3 tt h)
+is-same : (x : Compared) → OneOf (0 ∷ []) (tagOf the-type x) → x ≡ Same
+is-same Same h = refl
+is-same Different h = absurd (miss (0 ∷ []) 1 tt h)
+is-same (FirstRefused r) h = absurd (miss (0 ∷ []) 2 tt h)
+is-same (SecondRefused r) h = absurd (miss (0 ∷ []) 3 tt h)
 
 is-different : (x : Compared) → OneOf (1 ∷ []) (tagOf the-type x) → x ≡ Different
-is-different Equal h = absurd (miss (1 ∷ []) 0 tt h)
+is-different Same h = absurd (miss (1 ∷ []) 0 tt h)
 is-different Different h = refl
 is-different (FirstRefused r) h = absurd (miss (1 ∷ []) 2 tt h)
 is-different (SecondRefused r) h = absurd (miss (1 ∷ []) 3 tt h)
@@ -27,7 +27,7 @@ is-different (SecondRefused r) h = absurd (miss (1 ∷ []) 3 tt h)
 returns : tie.Need-returns
 returns c =
     c .compared .ensures
-    ∙ sym (ap (λ (x : Compared). same-fields (comparison x)) (is-equal (c .before .before .before .args .c) (c .before .before .match .keys1)))
+    ∙ sym (ap (λ (x : Compared). same-fields (comparison x)) (is-same (c .before .before .before .args .c) (c .before .before .match .keys1)))
 
 returns-2 : tie.Need-returns-2
 returns-2 c =
@@ -40,8 +40,8 @@ returns-3 c = c .one-refused .ensures ∙ sym (ap (λ (x : Compared). same-field
 returns-4 : tie.Need-returns-4
 returns-4 c = c .one-refused2 .ensures ∙ sym (ap (λ (x : Compared). same-fields (comparison x)) (c .before .before .c2 .given .1))
 
-pub pages-of-spec : {M : Type 1} → statement M
-pages-of-spec =
+pub same-of-spec : {M : Type 1} → statement M
+same-of-spec =
     tie.close
     (tie.spec
     (λ c. search needs)
