@@ -4,29 +4,11 @@
 //! output, keeps the rest and gives the length. A refusal writes nothing.
 
 pub mod raw;
+mod refusal;
 
 use std::cmp::Ordering;
 
-/// Why bytes or arguments were refused: a number of the table of refusals, and the place counted from 0.
-#[derive(Clone, Copy, Debug, PartialEq, Eq, Hash)]
-pub struct Refusal {
-    pub number: u8,
-    pub place: usize,
-}
-
-/// Which of two compared byte strings was refused.
-#[derive(Clone, Copy, Debug, PartialEq, Eq, Hash)]
-pub enum Which {
-    First,
-    Second,
-}
-
-/// A comparison's refusal. The first input is read first.
-#[derive(Clone, Copy, Debug, PartialEq, Eq, Hash)]
-pub struct Refused {
-    pub which: Which,
-    pub refusal: Refusal,
-}
+pub use refusal::{Refusal, Refused, Which};
 
 /// An HTTP version, ordered by major, then minor, as numbers.
 #[derive(Clone, Copy, Debug, PartialEq, Eq, PartialOrd, Ord, Hash)]
