@@ -1,20 +1,18 @@
 -- What the writer leaves in the lent bytes, and its answers.
 use Prim.Native.Nat.{ℕ, zero, suc, _+_, _-_, _*_, _/_, _%_, _≤_, _<_}
 use native.Mathlib.Omega.{arith}
-use borrow.Author.Tests.{lt-ltb, le-ltb}
 use mathlib.Core.Path.{_≡_, refl, sym, ap, _∙_}
-use mathlib.Core.Bool.{Bool, true, false, cond, _&&_, true≢false}
+use mathlib.Core.Bool.{Bool, true, false, cond, not, _&&_}
 use mathlib.Core.List.{List, [], _∷_, _++_}
-use lib.Dec.{ltb}
 use lib.IntN.{ℤ}
 use lib.ListN.{length, take, drop, getD}
 use denote.Enum.Declared.{tagOf}
 use types.Run.{OneOf, miss}
 use Rattle.calendar.proofs.Told.{the-type}
-use Rattle.grammar.specs.Reading.{Verdict, value, refused}
 use Rattle.octets.specs.declared.Written.{Written}
 use Rattle.octets.specs.declared.Written.the-variants.{Length, Refused}
-use Rattle.octets.specs.Writing.{written, output}
+use Rattle.octets.specs.Writing.{written}
+use Rattle.octets.proofs.Writing as W
 use Rattle.text.specs.Placing.{placed}
 use Rattle.text.proofs.Placing.{placed-fits}
 use Rattle.calendar.specs.declared.Fields.{Fields}
@@ -25,7 +23,7 @@ use Rattle.calendar.specs.Instants.{in-range?, told, fields-at, weekday-at}
 use Rattle.calendar.proofs.Dates.{DateIs, date-is}
 use Rattle.calendar.proofs.Demands.{fields-exist}
 use Rattle.date.specs.Names.{month-names, day-names}
-use Rattle.date.specs.Writing.{tens, ones, letter, date-text, instant-text, writing, written-output}
+use Rattle.date.specs.Writing.{tens, ones, letter, date-text, instant-text, date-writing, written-output}
 
 -- the text, as its parts are found
 pub text-found : (k : ℕ) (f : Fields) (l1 l2 l3 d1 d2 m1 m2 m3 y1 y2 y3 y4 h1 h2 i1 i2 s1 s2 : ℕ)
@@ -98,34 +96,29 @@ module _ (s : ℤ) where
 
   -- ## The answers
 
+  text-length : (k : ℕ) (f : Fields) → length (date-text k f) ≡ 29
+  unfolding date-text
+  text-length k f = refl
+
   module _ (old : List ℕ) where
     abbrev pub Answered : Written → List ℕ → Type 0
-    Answered r new = (written r ≡ writing s (length old)) × (new ≡ written-output s old)
+    Answered r new = (written r ≡ date-writing s (length old)) × (new ≡ written-output s old)
 
-    refuses : (n : ℕ) (r : Written) → r ≡ Refused (record { number = n; place = 0 }) → writing s (length old) ≡ refused n 0 → Answered r old
-    refuses n r e f = (ap written e ∙ sym f, sym (ap (λ (w : Verdict ℕ). output w (instant-text s) old) f))
-
-    writing-as : (t u : Bool) → in-range? s ≡ t → ltb (length old) 29 ≡ u → writing s (length old) ≡ cond t (cond u (refused 8 0) (value 29)) (refused 9 0)
-    unfolding writing
-    writing-as t u a b = ap (λ (x : Bool). cond x (cond (ltb (length old) 29) (refused 8 0) (value 29)) (refused 9 0)) a ∙ ap (λ (y : Bool). cond t (cond y (refused 8 0) (value 29)) (refused 9 0)) b
+    long : length (instant-text s) ≡ 29
+    long = text-length (weekday-at s) (fields-at s)
 
     pub refuses-range : (r : Written) → r ≡ Refused (record { number = 9; place = 0 }) → Outside ≡ told s → Answered r old
-    refuses-range r e h = refuses 9 r e (writing-as false (ltb (length old) 29) (told-outside h) refl)
+    refuses-range r e h = W.refuses-argument (not (in-range? s)) (instant-text s) old r e (ap not (told-outside h))
 
     pub refuses-short : (r : Written) → r ≡ Refused (record { number = 8; place = 0 }) → (f : Fields) (w : ℕ) → On f w ≡ told s → length old < 29 → Answered r old
-    refuses-short r e f w t h = refuses 8 r e (writing-as true true (told-is f w t .0) (lt-ltb (length old) 29 h))
+    refuses-short r e f w t h =
+        W.refuses-short (not (in-range? s)) (instant-text s) old r e (ap not (told-is f w t .0)) (omega (arith, long))
 
-    text-length : (k : ℕ) (f : Fields) → length (date-text k f) ≡ 29
-    unfolding date-text
-    text-length k f = refl
-
-    pub writes : (f : Fields) (w : ℕ) → On f w ≡ told s → 29 ≤ length old → (text new : List ℕ) → text ≡ date-text w f → new ≡ placed old 0 text → Answered (Length 29) new
+    pub writes : (f : Fields) (w : ℕ) → On f w ≡ told s → 29 ≤ length old → (text new : List ℕ) → text ≡ date-text w f → new ≡ placed old 0 text
+        → Answered (Length 29) new
     writes f w t h text new e p =
         let q = told-is f w t in
-        let r : writing s (length old) ≡ value 29 = writing-as true false (q .0) (le-ltb (length old) 29 h) in
         let x : text ≡ instant-text s = e ∙ ap (λ (k : ℕ). date-text k f) (q .2) ∙ ap (date-text (weekday-at s)) (q .1) in
-        let l : length (instant-text s) ≡ 29 = text-length (weekday-at s) (fields-at s) in
-        let z : 0 + length (instant-text s) ≡ length (instant-text s) = omega arith in (
-          sym r,
-          p ∙ ap (placed old 0) x ∙ placed-fits old 0 (instant-text s) (omega arith) ∙ ap (λ (n : ℕ). instant-text s ++ drop n old) z ∙ sym (ap (λ (v : Verdict ℕ). output v (instant-text s) old) r),
-        )
+        let z : 0 + length (instant-text s) ≡ length (instant-text s) = omega arith in
+        W.writes-all (not (in-range? s)) (instant-text s) old 29 new (sym long) (ap not (q .0)) (omega (arith, long))
+        (p ∙ ap (placed old 0) x ∙ placed-fits old 0 (instant-text s) (omega (arith, long)) ∙ ap (λ (n : ℕ). instant-text s ++ drop n old) z)

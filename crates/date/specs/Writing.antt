@@ -1,12 +1,11 @@
 -- "The writer gives the 29 bytes of the RFC 1123 form, and refusal 9 outside that range."
 use Prim.Native.Nat.{ℕ, _+_, _-_, _*_, _/_, _%_}
-use mathlib.Core.Bool.{cond}
+use mathlib.Core.Bool.{not}
 use mathlib.Core.List.{List, [], _∷_}
-use lib.Dec.{ltb}
 use lib.IntN.{ℤ}
 use lib.ListN.{length, getD}
-use Rattle.grammar.specs.Reading.{Verdict, value, refused}
-use Rattle.octets.specs.Writing.{output}
+use Rattle.grammar.specs.Reading.{Verdict}
+use Rattle.octets.specs.Writing.{writing, output}
 use Rattle.calendar.specs.declared.Fields.{Fields}
 use Rattle.calendar.specs.Instants.{in-range?, fields-at, weekday-at}
 use Rattle.date.specs.Names.{month-names, day-names}
@@ -35,10 +34,9 @@ date-text k f =
 abbrev pub instant-text : ℤ → List ℕ
 instant-text s = date-text (weekday-at s) (fields-at s)
 
--- the answer in a room: 9, then 8 for an output shorter than 29 bytes, each at place 0
-unfoldable pub writing : ℤ → ℕ → Verdict ℕ
-writing s room = cond (in-range? s) (cond (ltb room 29) (refused 8 0) (value 29)) (refused 9 0)
+-- the answer in a room, and the lent output afterwards
+abbrev pub date-writing : ℤ → ℕ → Verdict ℕ
+date-writing s room = writing (not (in-range? s)) (instant-text s) room
 
--- the lent output afterwards
 abbrev pub written-output : ℤ → List ℕ → List ℕ
-written-output s old = output (writing s (length old)) (instant-text s) old
+written-output s old = output (date-writing s (length old)) (instant-text s) old

@@ -15,7 +15,7 @@ ghost use Rattle.language.specs.Reading.{equality};
 ghost use Rattle.etag.specs.Grammar.{rules as etags};
 ghost use Rattle.etag.specs.Reading.{strong-matching, weak-matching};
 ghost use Rattle.date.specs.Grammar.{rules as dates};
-ghost use Rattle.date.specs.Writing.{writing as date-writing, written-output as date-output};
+ghost use Rattle.date.specs.Writing.{date-writing, written-output as date-output};
 ghost use Rattle.media.specs.Grammar.{rules as media-types};
 ghost use Rattle.media.specs.Charset.{charsets};
 ghost use Rattle.media.specs.Reading.{equality as media-equality, charset-verdict};
