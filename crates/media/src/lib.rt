@@ -332,7 +332,8 @@ fn equal_to(a: &[u8], m: MediaType, table: Table, b: &[u8]) -> Compared
 fn same_media(a: &[u8], m: MediaType, t: Table, b: &[u8], n: MediaType, u: Table) -> bool
     requires { ⌜ PlacedMedia (now a) m t ⌝ }
     requires { ⌜ PlacedMedia (now b) n u ⌝ }
-    ensures { λ r. ⌜ r ≡ same-meaning (meaning-at (now (a .entry)) m (take (m .count) t)) (meaning-at (now (b .entry)) n (take (n .count) u)) ⌝ }
+    ensures { λ r. ⌜ r ≡ same-meaning (meaning-at (now (a .entry)) m (take (m .count) t))
+        (meaning-at (now (b .entry)) n (take (n .count) u)) ⌝ }
 {
     if !same_names(a, m, b, n) {
         return false;
