@@ -13,7 +13,7 @@ use Rattle.numerals.proofs.Digits.{split, glyph-below, glyph-above}
 use Rattle.numerals.proofs.Demands as Numerals
 use Rattle.framing.specs.Grammar as G
 use Rattle.framing.specs.Grammar.{Many, Some, Size, Line, Chunk, Chunks, Body, valueFrom}
-use Rattle.chunk_writer.specs.Writing.{chunk, end, framed, joined, cut-in, cut}
+use Rattle.chunk_writer.specs.Writing.{chunk, end, framed, joined, chunks-in, chunks-of}
 
 -- ## Sizes
 inside : (lo hi b : ℕ) → lo ≤ b → b ≤ hi → within lo hi b ≡ true
@@ -112,14 +112,14 @@ take-some : (n b : ℕ) (xs : List ℕ) → 0 < n → 0 < length (take n (b ∷ 
 take-some zero b xs h = absurd (omega arith)
 take-some (suc n) b xs h = omega arith
 
-cut-pieces : (f n : ℕ) (xs : List ℕ) → 0 < n → Many octet? xs → Pieces (cut-in f n xs)
-unfolding cut-in
+cut-pieces : (f n : ℕ) (xs : List ℕ) → 0 < n → Many octet? xs → Pieces (chunks-in f n xs)
+unfolding chunks-in
 cut-pieces zero n xs p m = none
 cut-pieces (suc f) n [] p m = none
 cut-pieces (suc f) n (b ∷ xs) p m = more (take-some n b xs p) (many-take n m) (cut-pieces f n (drop n (b ∷ xs)) p (many-drop n m))
 
-cut-joined : (f n : ℕ) (xs : List ℕ) → 0 < n → length xs ≤ f → joined (cut-in f n xs) ≡ xs
-unfolding cut-in joined
+cut-joined : (f n : ℕ) (xs : List ℕ) → 0 < n → length xs ≤ f → joined (chunks-in f n xs) ≡ xs
+unfolding chunks-in joined
 cut-joined zero n [] p h = refl
 cut-joined zero n (b ∷ xs) p h = absurd (omega arith)
 cut-joined (suc f) n [] p h = refl
@@ -127,10 +127,10 @@ cut-joined (suc f) n (b ∷ xs) p h =
     ap (λ (z : List ℕ). take n (b ∷ xs) ++ z) (cut-joined f n (drop n (b ∷ xs)) p (omega (arith, length-drop n (b ∷ xs))))
     ∙ take-append-drop n (b ∷ xs)
 
-pub pieces-of : (n : ℕ) (xs : List ℕ) → 0 < n → Many octet? xs → Pieces (cut n xs)
-unfolding cut
+pub pieces-of : (n : ℕ) (xs : List ℕ) → 0 < n → Many octet? xs → Pieces (chunks-of n xs)
+unfolding chunks-of
 pieces-of n xs p m = cut-pieces (length xs) n xs p m
 
-pub joined-cut : (n : ℕ) (xs : List ℕ) → 0 < n → joined (cut n xs) ≡ xs
-unfolding cut
+pub joined-cut : (n : ℕ) (xs : List ℕ) → 0 < n → joined (chunks-of n xs) ≡ xs
+unfolding chunks-of
 joined-cut n xs p = cut-joined (length xs) n xs p (omega arith)

@@ -8,10 +8,10 @@ use lib.ListN.{length, take, drop, length-append, length-drop, drop-of-length-le
 use lib.Seq.{take-all, length-take-le}
 use Rattle.numerals.specs.Numeral.{numeral}
 use Rattle.numerals.proofs.Digits.{numeral-length, width-bound}
-use Rattle.chunk_writer.specs.Writing.{BODY_LIMIT, chunk, end, framed, cut-in, cut, frame}
+use Rattle.chunk_writer.specs.Writing.{BODY_LIMIT, chunk, end, framed, chunks-in, chunks-of, frame}
 
-steps-enough : (f g n : ℕ) (xs : List ℕ) → 0 < n → length xs ≤ f → length xs ≤ g → cut-in f n xs ≡ cut-in g n xs
-unfolding cut-in
+steps-enough : (f g n : ℕ) (xs : List ℕ) → 0 < n → length xs ≤ f → length xs ≤ g → chunks-in f n xs ≡ chunks-in g n xs
+unfolding chunks-in
 steps-enough zero zero n [] p hf hg = refl
 steps-enough zero (suc g) n [] p hf hg = refl
 steps-enough (suc f) zero n [] p hf hg = refl
@@ -22,13 +22,13 @@ steps-enough (suc f) (suc g) n (b ∷ xs) p hf hg =
     ap (λ (z : List (List ℕ)). take n (b ∷ xs) ∷ z)
     (steps-enough f g n (drop n (b ∷ xs)) p (omega (arith, length-drop n (b ∷ xs))) (omega (arith, length-drop n (b ∷ xs))))
 
-pub cut-none : (n : ℕ) → cut n [] ≡ []
-unfolding cut cut-in
+pub cut-none : (n : ℕ) → chunks-of n [] ≡ []
+unfolding chunks-of chunks-in
 cut-none n = refl
 
 -- the first piece is cut off
-pub cut-some : (n : ℕ) (xs : List ℕ) → 0 < n → 0 < length xs → cut n xs ≡ take n xs ∷ cut n (drop n xs)
-unfolding cut cut-in
+pub cut-some : (n : ℕ) (xs : List ℕ) → 0 < n → 0 < length xs → chunks-of n xs ≡ take n xs ∷ chunks-of n (drop n xs)
+unfolding chunks-of chunks-in
 cut-some n [] p h = absurd (omega arith)
 cut-some n (b ∷ xs) p h =
     ap (λ (z : List (List ℕ)). take n (b ∷ xs) ∷ z)
@@ -48,7 +48,7 @@ frame-none n = ap framed (cut-none n) ∙ framed-none
 
 pub frame-some : (n : ℕ) (xs : List ℕ) → 0 < n → 0 < length xs → frame xs n ≡ chunk (take n xs) ++ frame (drop n xs) n
 unfolding frame
-frame-some n xs p h = ap framed (cut-some n xs p h) ∙ framed-some (take n xs) (cut n (drop n xs))
+frame-some n xs p h = ap framed (cut-some n xs p h) ∙ framed-some (take n xs) (chunks-of n (drop n xs))
 
 -- ## Lengths
 pub chunk-length : (xs : List ℕ) → length (chunk xs) ≡ length (numeral 16 (length xs)) + length xs + 4

@@ -13,7 +13,7 @@ use Rattle.framing.specs.Answer.{whole}
 use Rattle.framing.specs.Demand.{BeginsWhole}
 use Rattle.framing.specs.Reading.{decode, decoded}
 use Rattle.framing.proofs.Demands as Framing
-use Rattle.chunk_writer.specs.Writing.{BODY_LIMIT, chunk, end, framed, joined, cut-in, cut, frame}
+use Rattle.chunk_writer.specs.Writing.{BODY_LIMIT, chunk, end, framed, joined, chunks-in, chunks-of, frame}
 use Rattle.chunk_writer.proofs.Cuts as Cuts
 use Rattle.chunk_writer.proofs.Bodies.{size-is, framed-body, pieces-of, joined-cut}
 use Rattle.chunk_writer.proofs.ReadsBack.{reads-framed}
@@ -39,16 +39,16 @@ ends = Cuts.frame-none
 -- the frame of a body of bytes is a chunked body, and its joined data is that body
 pub frames : (body : List ℕ) (n : ℕ) → Many octet? body → 0 < n → Body (frame body n) body
 unfolding frame
-frames body n m p = subst (Body (framed (cut n body))) (joined-cut n body p) (framed-body (cut n body) (pieces-of n body p m))
+frames body n m p = subst (Body (framed (chunks-of n body))) (joined-cut n body p) (framed-body (chunks-of n body) (pieces-of n body p m))
 
 -- it reads back, in every room that holds the body, at every chunk length that the writer accepts: whole, all of it taken, the body's length
 pub reads-back : (r : ℕ) (body : List ℕ) (n : ℕ) → Many octet? body → 0 < n → length body ≤ BODY_LIMIT → length body ≤ r
     → decode r (frame body n) ≡ whole (length (frame body n)) (length body)
 unfolding frame
 reads-back r body n m p small l =
-    let j : joined (cut n body) ≡ body = joined-cut n body p in
-    let k : length (joined (cut n body)) ≡ length body = ap length j in
-    reads-framed r (cut n body) (pieces-of n body p m) (omega arith) (omega arith) ∙ ap (whole (length (framed (cut n body)))) k
+    let j : joined (chunks-of n body) ≡ body = joined-cut n body p in
+    let k : length (joined (chunks-of n body)) ≡ length body = ap length j in
+    reads-framed r (chunks-of n body) (pieces-of n body p m) (omega arith) (omega arith) ∙ ap (whole (length (framed (chunks-of n body)))) k
 
 -- and what is written then is the body
 pub writes-back : (r : ℕ) (body : List ℕ) (n : ℕ) → Many octet? body → 0 < n → length body ≤ BODY_LIMIT → length body ≤ r
@@ -63,5 +63,5 @@ writes-back r body n m p small l =
 -- "`hello` at length 2 makes 25 bytes"
 pub hello : frame (104 ∷ 101 ∷ 108 ∷ 108 ∷ 111 ∷ []) 2
     ≡ 50 ∷ 13 ∷ 10 ∷ 104 ∷ 101 ∷ 13 ∷ 10 ∷ 50 ∷ 13 ∷ 10 ∷ 108 ∷ 108 ∷ 13 ∷ 10 ∷ 49 ∷ 13 ∷ 10 ∷ 111 ∷ 13 ∷ 10 ∷ 48 ∷ 13 ∷ 10 ∷ 13 ∷ 10 ∷ []
-unfolding frame cut cut-in framed chunk numeral digits width width-in glyph
+unfolding frame chunks-of chunks-in framed chunk numeral digits width width-in glyph
 hello = refl

@@ -18,8 +18,8 @@ use Rattle.framing.specs.declared.State.the-variants.{Line, LineFeed, Data, Dat
 use Rattle.framing.specs.Answer.{whole}
 use Rattle.framing.specs.Grammar as G
 use Rattle.framing.specs.Grammar.{Many, valueFrom}
-use Rattle.framing.specs.Scan.{Verdict, ended, stop, note, scan, answer}
-use Rattle.framing.specs.Machine.{lineStep, lineLive, lineEnds, leaveLine, enterChunk, step, live, done, pastRoom, over}
+use Rattle.framing.specs.helpers.Scan.{Verdict, ended, stop, note, scan, answer}
+use Rattle.framing.specs.helpers.Machine.{lineStep, lineLive, lineEnds, leaveLine, enterChunk, step, live, done, pastRoom, over}
 use Rattle.framing.specs.Reading.{judge, decode}
 use Rattle.chunk_writer.specs.Writing.{chunk, end, framed, joined, frame}
 use Rattle.chunk_writer.proofs.Cuts.{hex-short}

@@ -29,17 +29,17 @@ joined [] = []
 joined (xs ∷ pieces) = xs ++ joined pieces
 
 -- "cuts off full chunks, then what remains"; the first number only bounds the steps
-unfoldable pub cut-in : ℕ → ℕ → List ℕ → List (List ℕ)
-cut-in zero n xs = []
-cut-in (suc steps) n [] = []
-cut-in (suc steps) n (b ∷ xs) = take n (b ∷ xs) ∷ cut-in steps n (drop n (b ∷ xs))
+unfoldable pub chunks-in : ℕ → ℕ → List ℕ → List (List ℕ)
+chunks-in zero n xs = []
+chunks-in (suc steps) n [] = []
+chunks-in (suc steps) n (b ∷ xs) = take n (b ∷ xs) ∷ chunks-in steps n (drop n (b ∷ xs))
 
-unfoldable pub cut : ℕ → List ℕ → List (List ℕ)
-cut n xs = cut-in (length xs) n xs
+unfoldable pub chunks-of : ℕ → List ℕ → List (List ℕ)
+chunks-of n xs = chunks-in (length xs) n xs
 
 -- the body framed in chunks of n bytes
 unfoldable pub frame : List ℕ → ℕ → List ℕ
-frame body n = framed (cut n body)
+frame body n = framed (chunks-of n body)
 
 -- lent bytes once xs is put at their front
 abbrev pub front : List ℕ → List ℕ → List ℕ
@@ -52,12 +52,12 @@ abbrev pub BODY_LIMIT : ℕ
 BODY_LIMIT = 1073741824
 
 -- "Writers: 9, 7, 8", each at place 0; the room is the length of the lent output
-unfoldable pub answered : List ℕ → ℕ → ℕ → Verdict ℕ
-answered body n room =
+unfoldable pub frame-writing : List ℕ → ℕ → ℕ → Verdict ℕ
+frame-writing body n room =
     cond (eqb n 0) (refused 9 0)
     (cond (ltb BODY_LIMIT (length body)) (refused 7 0)
     (cond (ltb room (length (frame body n))) (refused 8 0) (value (length (frame body n)))))
 
 -- the lent output afterwards
-unfoldable pub after : List ℕ → ℕ → List ℕ → List ℕ
-after body n old = output (answered body n (length old)) (frame body n) old
+unfoldable pub frame-output : List ℕ → ℕ → List ℕ → List ℕ
+frame-output body n old = output (frame-writing body n (length old)) (frame body n) old

@@ -4,7 +4,7 @@ ghost use Prim.Native.Nat.{ℕ, _+_, _<_, _≤_, min};
 ghost use lib.ListN.{length};
 ghost use Rattle.octets.specs.Writing.{written};
 ghost use Rattle.text.specs.Placing.{placed};
-ghost use Rattle.chunk_writer.specs.Writing.{BODY_LIMIT as bodyLimit, chunk, end, frame, front, answered, after};
+ghost use Rattle.chunk_writer.specs.Writing.{BODY_LIMIT as bodyLimit, chunk, end, frame, front, frame-writing, frame-output};
 use octets::Refusal;
 use octets::Written;
 
@@ -19,8 +19,8 @@ const END: usize = 5;
 
 // Frames `body` in chunks of `chunk_len` bytes at the front of `out`, and keeps the rest of `out`. A refusal leaves `out` as it was.
 pub fn encode(body: &[u8], chunk_len: usize, out: &mut [u8]) -> Written
-    ensures answers { λ r. ⌜ written r ≡ answered (now (body .entry)) «chunk_len» (length (now (out .entry))) ⌝ }
-    ensures writes { λ _. ⌜ now (out .exit) ≡ after (now (body .entry)) «chunk_len» (now (out .entry)) ⌝ }
+    ensures answers { λ r. ⌜ written r ≡ frame-writing (now (body .entry)) «chunk_len» (length (now (out .entry))) ⌝ }
+    ensures writes { λ _. ⌜ now (out .exit) ≡ frame-output (now (body .entry)) «chunk_len» (now (out .entry)) ⌝ }
 {
     if chunk_len == 0 {
         return refused(9);
@@ -63,17 +63,11 @@ fn put_frame(body: &[u8], n: usize, out: &mut [u8])
     let mut i = 0;
     let mut o = 0;
     while i < body.len() {
-        let k = least(n, body.len() - i);
+        let k = octets::least(n, body.len() - i);
         o = put_chunk(&body[i..i + k], out, o);
         i += k;
     }
     put_end(out, o);
-}
-
-fn least(a: usize, b: usize) -> usize
-    ensures { λ r. ⌜ r ≡ min a b ⌝ }
-{
-    if a < b { a } else { b }
 }
 
 // Puts the chunk of these bytes at `o`, and gives the place behind it.

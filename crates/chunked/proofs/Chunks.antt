@@ -13,14 +13,14 @@ use Rattle.framing.specs.Grammar.{LINE_LIMIT}
 use Rattle.framing.specs.declared.LinePos.{LinePos}
 use Rattle.framing.specs.declared.LinePos.the-variants.{First}
 use Rattle.framing.specs.declared.State.the-variants.{Line, Data, DataCr, DataLf}
-use Rattle.framing.specs.Machine.{lineStep, lineLive, lineEnds, step}
+use Rattle.framing.specs.helpers.Machine.{lineStep, lineLive, lineEnds, step}
 use Rattle.framing.specs.Reading.{decode}
 use Rattle.framing.proofs.Cases.{false-true}
 use Rattle.framing.proofs.Scanning.{run-live}
 use Rattle.framing.proofs.Lines.{lineRun, line-sound, line-dead, line-no-cr, line-ends-live}
 use Rattle.framing.proofs.Rooms.{sizeOf, ends-size, size-grows}
 use Rattle.chunked.specs.declared.Found.the-variants as Found
-use Rattle.chunked.specs.Passes.{At, LineAt, LineRead, Known, CrlfAt, ChunkAt, ChunkRead}
+use Rattle.chunked.specs.helpers.Passes.{At, LineAt, LineRead, Known, CrlfAt, ChunkAt, ChunkRead}
 use Rattle.chunked.proofs.Passes.{at-next, at-more, at-refuse, data-fits}
 use Rattle.chunked.proofs.Turns as Turns
 

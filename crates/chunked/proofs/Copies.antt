@@ -15,9 +15,9 @@ use Rattle.framing.specs.Grammar.{Many}
 use Rattle.framing.specs.declared.LinePos.the-variants.{First}
 use Rattle.framing.specs.declared.State.{State}
 use Rattle.framing.specs.declared.State.the-variants.{Line, Data, DataCr}
-use Rattle.framing.specs.Machine.{step, emit, start}
-use Rattle.framing.specs.Scan.{ended, stop, out, scan, written}
-use Rattle.framing.specs.Reading.{judge, decode, decoded, after}
+use Rattle.framing.specs.helpers.Machine.{step, emit, start}
+use Rattle.framing.specs.helpers.Scan.{ended, stop, out, scan, written}
+use Rattle.framing.specs.Reading.{judge, decode, decoded, decode-output}
 use Rattle.framing.proofs.Scanning.{out-append, Stops, stop-stops}
 use Rattle.framing.proofs.Machines.{whole-of}
 use Rattle.framing.proofs.Goes.{goes-data}
@@ -27,7 +27,7 @@ use Rattle.octets.specs.declared.Refusal.{Refusal}
 use Rattle.chunked.specs.declared.Answer.{Answer}
 use Rattle.chunked.specs.declared.Answer.the-variants.{More, Refused}
 use Rattle.chunked.specs.Verdict.{verdict}
-use Rattle.chunked.specs.Passes.{At, dataTo, Copied, ChunkAt}
+use Rattle.chunked.specs.helpers.Passes.{At, dataTo, Copied, ChunkAt}
 use Rattle.chunked.proofs.Passes.{begins, at-start, first-fits}
 use Rattle.chunked.proofs.Chunks.{line-on, data-on, chunk-on}
 
@@ -172,8 +172,8 @@ module _ (xs old : List ℕ) where
       (copied-on bytes y h c fits (e ∙ ap (λ (n : ℕ). take (n + v - n) (drop n xs)) (sym k)))
 
   module _ {taken len : ℕ} (w : decode (length old) xs ≡ Framing.whole taken len) where
-    pub copied-all : {new : List ℕ} {i o : ℕ} → Copied xs old new i o → len ≤ o → new ≡ after xs old
-    unfolding after
+    pub copied-all : {new : List ℕ} {i o : ℕ} → Copied xs old new i o → len ≤ o → new ≡ decode-output xs old
+    unfolding decode-output
     copied-all {new} {i} {o} h le =
         let d : decoded (length old) xs ≡ dataTo xs i = all-data (length old) xs w (h .at) le in
         h .wrote
@@ -181,15 +181,15 @@ module _ (xs old : List ℕ) where
         ∙ ap (λ (z : List ℕ). z ++ drop (length z) old) (sym d)
 
   -- any other answer leaves them
-  kept-other : ((n k : ℕ) → decode (length old) xs ≡ Framing.whole n k → ⊥) → old ≡ after xs old
-  unfolding after
+  kept-other : ((n k : ℕ) → decode (length old) xs ≡ Framing.whole n k → ⊥) → old ≡ decode-output xs old
+  unfolding decode-output
   kept-other f = ap (λ (z : List ℕ). z ++ drop (length z) old) (sym (demands .keeps (length old) xs f))
 
   module _ {a : Answer} (e : verdict a ≡ decode (length old) xs) where
-    pub kept-more : a ≡ More → old ≡ after xs old
+    pub kept-more : a ≡ More → old ≡ decode-output xs old
     kept-more f = kept-other (λ n k h. let z : Framing.more ≡ Framing.whole n k = ap verdict (sym f) ∙ e ∙ h in
         let y : _≡_ {A = ℕ} 0 1 = cc in absurd (omega arith))
 
-    pub kept-refused : {r : Refusal} → a ≡ Refused r → old ≡ after xs old
+    pub kept-refused : {r : Refusal} → a ≡ Refused r → old ≡ decode-output xs old
     kept-refused {r} f = kept-other (λ n k h. let z : Framing.refused (r .number) (r .place) ≡ Framing.whole n k = ap verdict (sym f) ∙ e ∙ h in
         let y : _≡_ {A = ℕ} 0 1 = cc in absurd (omega arith))

@@ -20,13 +20,13 @@ use Rattle.framing.specs.declared.LinePos.the-variants.{First, Size, Ext}
 use Rattle.framing.specs.declared.TrailPos.{TrailPos}
 use Rattle.framing.specs.declared.TrailPos.the-variants as TrailPos
 use Rattle.framing.specs.declared.State.the-variants.{Line, LineFeed, Data, Trail, EndLf}
-use Rattle.framing.specs.Machine.{extStep, extEnds, extLive, lineStep, lineEnds, trailStep, trailEnds, trailLive, step, live}
+use Rattle.framing.specs.helpers.Machine.{extStep, extEnds, extLive, lineStep, lineEnds, trailStep, trailEnds, trailLive, step, live}
 use Rattle.framing.specs.Reading.{decode}
 use Rattle.framing.proofs.Cases.{false-true}
 use Rattle.chunked.specs.declared.Sized.the-variants as Sized
 use Rattle.framing.proofs.Scanning.{run-append}
 use Rattle.framing.proofs.Lines.{lineRun, line-complete}
-use Rattle.chunked.specs.Passes.{At, SizeRead, LineAt}
+use Rattle.chunked.specs.helpers.Passes.{At, SizeRead, LineAt}
 use Rattle.chunked.proofs.Passes.{at-next, at-refuse, at-end, first-fits, line-short}
 use Rattle.chunked.proofs.Turns as Turns
 

@@ -13,15 +13,15 @@ use Rattle.framing.specs.declared.State.{State}
 use Rattle.framing.specs.declared.LinePos.{LinePos}
 use Rattle.framing.specs.declared.LinePos.the-variants.{First}
 use Rattle.framing.specs.declared.State.the-variants.{Line, LineFeed, Data}
-use Rattle.framing.specs.Machine.{step, live, done, over, lineLive, pastRoom, start}
-use Rattle.framing.specs.Scan.{Verdict, ended, refusal, stop, run, scan, answer, Quiet}
+use Rattle.framing.specs.helpers.Machine.{step, live, done, over, lineLive, pastRoom, start}
+use Rattle.framing.specs.helpers.Scan.{Verdict, ended, refusal, stop, run, scan, answer, Quiet}
 use Rattle.framing.specs.Reading.{judge, decode}
 use Rattle.framing.proofs.Scanning.{run-append, quiet-on, quiet-going, stops-stop}
 use Rattle.framing.proofs.Judging.{quiet-in}
 use Rattle.chunked.specs.declared.Answer.{Answer}
 use Rattle.chunked.specs.declared.Answer.the-variants.{Whole, More}
 use Rattle.chunked.specs.Verdict.{verdict}
-use Rattle.chunked.specs.Passes.{At, Last}
+use Rattle.chunked.specs.helpers.Passes.{At, Last}
 use Rattle.framing.proofs.Rooms.{sizeOf, InRoom}
 
 pub begins : (room : ℕ) → judge room start ≡ none

@@ -1,3 +1,2 @@
 pub mod Verdict
-pub mod Passes
-pub mod Runs
+pub mod helpers

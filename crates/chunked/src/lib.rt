@@ -9,11 +9,11 @@ ghost use Rattle.octets.specs.Bytes.{hex?, hex-value};
 ghost use Rattle.framing.specs.Answer.{whole, refused};
 ghost use Rattle.framing.specs.declared.LinePos.the-variants.{First};
 ghost use Rattle.framing.specs.declared.State.the-variants.{Line, LineFeed, Trail, EndLf};
-ghost use Rattle.framing.specs.Machine.{extStep, extEnds, extLive, trailStep, trailEnds, trailLive};
-ghost use Rattle.framing.specs.Reading.{after, decode as decodeIn};
+ghost use Rattle.framing.specs.helpers.Machine.{extStep, extEnds, extLive, trailStep, trailEnds, trailLive};
+ghost use Rattle.framing.specs.Reading.{decode-output, decode as decodeIn};
 ghost use Rattle.chunked.specs.Verdict.{verdict};
-ghost use Rattle.chunked.specs.Runs.{blockAt};
-ghost use Rattle.chunked.specs.Passes.{At, SizeRead, LineRead, Last, LineAt, Known, CrlfAt, ChunkAt, ChunkRead};
+ghost use Rattle.chunked.specs.helpers.Runs.{blockAt};
+ghost use Rattle.chunked.specs.helpers.Passes.{At, SizeRead, LineRead, Last, LineAt, Known, CrlfAt, ChunkAt, ChunkRead};
 use framing::ExtPos;
 use framing::LINE_LIMIT;
 use framing::TRAILER_LIMIT;
@@ -43,7 +43,7 @@ enum Found {
 // answer leaves `out` as it was.
 pub fn decode(input: &[u8], out: &mut [u8]) -> Answer
     ensures answers { λ r. ⌜ verdict r ≡ decodeIn (length (now (out .entry))) (now (input .entry)) ⌝ }
-    ensures writes { λ _. ⌜ now (out .exit) ≡ after (now (input .entry)) (now (out .entry)) ⌝ }
+    ensures writes { λ _. ⌜ now (out .exit) ≡ decode-output (now (input .entry)) (now (out .entry)) ⌝ }
 {
     let a = decide(input, out.len());
     match a {
@@ -88,7 +88,7 @@ pub fn decide(input: &[u8], room: usize) -> Answer
 // Copies the data of a body that is whole: the second pass.
 fn copy(input: &[u8], out: &mut [u8], len: usize)
     requires { ⌜ ((taken : ℕ) × (decodeIn (length (now out)) (now input) ≡ whole taken len)) ⌝ }
-    ensures { λ _. ⌜ now (out .exit) ≡ after (now (input .entry)) (now (out .entry)) ⌝ }
+    ensures { λ _. ⌜ now (out .exit) ≡ decode-output (now (input .entry)) (now (out .entry)) ⌝ }
 {
     // As in the first pass; `o` bytes of data are written.
     let room = out.len();

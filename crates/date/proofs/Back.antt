@@ -8,8 +8,8 @@ use mathlib.Core.List.{List, [], _∷_}
 use lib.Dec.{leb, eqb}
 use lib.ListN.{length, drop}
 use Rattle.grammar.specs.Reading.{Verdict, value}
-use Rattle.grammar.specs.Judge.{header}
-use Rattle.grammar.specs.Scans.{slice}
+use Rattle.grammar.specs.helpers.Judge.{header}
+use Rattle.grammar.specs.helpers.Scans.{slice}
 use Rattle.octets.specs.Bytes.{digit?}
 use Rattle.octets.specs.Numbers.{number}
 use Rattle.calendar.specs.declared.Fields.{Fields}
@@ -20,9 +20,9 @@ use Rattle.calendar.proofs.Dates.{DateIs, TimeIs, date-is, time-is}
 use Rattle.date.specs.declared.Tail.the-variants.{Month}
 use Rattle.date.specs.Grammar.{forms, rules, value-of}
 use Rattle.date.specs.Names.{month-names, day-names}
-use Rattle.date.specs.Scan.{name-index, month-then, judged, fields-from, rest-of, rest-bytes, Goes, Ending}
-use Rattle.octets.specs.Shapes.{fitting}
-use Rattle.date.specs.Shapes.{standing}
+use Rattle.date.specs.helpers.Scan.{name-index, month-then, judged, fields-from, rest-of, rest-bytes, Goes, Ending}
+use Rattle.octets.specs.helpers.Shapes.{fitting}
+use Rattle.date.specs.helpers.Shapes.{standing}
 use Rattle.date.specs.Writing.{tens, ones, letter, date-text}
 use Rattle.date.proofs.Judged.{judged-well}
 use Rattle.date.proofs.Tables.{month-is}

@@ -8,7 +8,7 @@ use mathlib.Core.List.{List}
 use lib.Dec.{T}
 use lib.IntN.{ℤ}
 use Rattle.grammar.specs.Reading.{Verdict, value, Answers, too-long, malformed, breaks, faulty, reads}
-use Rattle.grammar.specs.Judge.{header}
+use Rattle.grammar.specs.helpers.Judge.{header}
 use Rattle.grammar.proofs.Deterministic.{deterministic?}
 use Rattle.grammar.proofs.Demands.{answered-exactly}
 use Rattle.octets.specs.Bytes.{digit?}

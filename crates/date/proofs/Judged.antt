@@ -15,7 +15,7 @@ use denote.Enum.Declared.{tagOf}
 use types.Run.{OneOf, miss}
 use Rattle.calendar.proofs.Located.{the-type}
 use Rattle.grammar.specs.Reading.{value, refused, no-such-date, wrong-day}
-use Rattle.grammar.specs.Judge.{unless-fault}
+use Rattle.grammar.specs.helpers.Judge.{unless-fault}
 use Rattle.calendar.specs.declared.Fields.{Fields}
 use Rattle.calendar.specs.declared.Located.{Located}
 use Rattle.calendar.specs.declared.Located.the-variants.{At, Nowhere}
@@ -25,7 +25,7 @@ use Rattle.calendar.specs.Instants.{seconds-of, located, in-range?}
 use Rattle.calendar.proofs.Demands.{in-range}
 use Rattle.calendar.proofs.Signed.{late, early}
 use Rattle.date.specs.Grammar.{fault-of, value-of}
-use Rattle.date.specs.Scan.{judged}
+use Rattle.date.specs.helpers.Scan.{judged}
 
 -- a match on the calendar's answer: its first arm
 pub is-nowhere : (l : Located) → OneOf (1 ∷ []) (tagOf the-type l) → l ≡ Nowhere

@@ -10,11 +10,11 @@ use mathlib.Core.Option.{Option, none, some}
 use lib.Dec.{T, leb, ltb, eqb}
 use lib.ListN.{length, getD, drop, drop-of-length-le, length-drop}
 use Rattle.grammar.specs.Grammar.{Part, Grammar, void, empty, byte, _⨾_, _∣_, part, rest, just, lit, bytes?, T-left, T-right}
-use Rattle.grammar.specs.Derivative.{live, nullable, deriv, ends, then, seq, alt}
+use Rattle.grammar.specs.helpers.Derivative.{live, nullable, deriv, ends, then, seq, alt}
 use Rattle.grammar.specs.Reading.{Rules, Verdict, value, refused}
-use Rattle.grammar.specs.Judge.{held, header, finished, unless-fault}
-use Rattle.grammar.specs.Checks.{ahead}
-use Rattle.grammar.specs.Scans.{slice, from}
+use Rattle.grammar.specs.helpers.Judge.{held, header, finished, unless-fault}
+use Rattle.grammar.specs.helpers.Checks.{ahead}
+use Rattle.grammar.specs.helpers.Scans.{slice, from}
 use Rattle.grammar.proofs.Loop.{header-short}
 use Rattle.grammar.proofs.Shapes.{alt-void, byte-step}
 use Rattle.grammar.proofs.Scans.{slice-none, slice-snoc, same-judge, part-begins, part-ends, first-is, first-not, first-none, ends-well, goes-too-far}
@@ -27,13 +27,13 @@ use Rattle.date.specs.declared.Places.{Places}
 use Rattle.date.specs.declared.Tail.{Tail}
 use Rattle.date.specs.declared.Tail.the-variants.{Month, Stops}
 use Rattle.date.specs.Grammar.{Name, weekday, month, day, year, short-year, hour, minute, second, months, full-year, fixed, dashed, plain, forms, date, fault-of, value-of, rules}
-use Rattle.grammar.specs.Words.{begins}
+use Rattle.grammar.specs.helpers.Words.{begins}
 use Rattle.date.specs.Names.{month-names, day-names, first-name}
-use Rattle.date.specs.Scan.{index, name-index, rest-of, rest-bytes, dashed-head, day-part, Goes, AfterDay, AtDashed, month-then, judged, year-from, Ending, fields-from}
-use Rattle.grammar.specs.Words.{larger}
-use Rattle.octets.specs.Shapes.{stands-for, fitting}
-use Rattle.date.specs.Shapes.{standing, longest}
-use Rattle.grammar.specs.Words.{common}
+use Rattle.date.specs.helpers.Scan.{index, name-index, rest-of, rest-bytes, dashed-head, day-part, Goes, AfterDay, AtDashed, month-then, judged, year-from, Ending, fields-from}
+use Rattle.grammar.specs.helpers.Words.{larger}
+use Rattle.octets.specs.helpers.Shapes.{stands-for, fitting}
+use Rattle.date.specs.helpers.Shapes.{standing, longest}
+use Rattle.grammar.specs.helpers.Words.{common}
 use Rattle.grammar.proofs.Words.{Word, choice, find, nearest, proper, Tail as Behind, no-tail, seq-tail, word-found, none-found}
 use Rattle.scans.proofs.Lines.{Item, is, num, zeros, line, shape, sound, over, parts, Lined, line-reads}
 use Rattle.date.proofs.Tables.{fit-bound, fit-inside, two-slice}

@@ -10,17 +10,17 @@ use mathlib.Core.Option.{Option, none, some}
 use lib.Dec.{leb, ltb, eqb}
 use lib.ListN.{length, getD, take, drop, drop-of-length-le, length-drop}
 use lib.Seq.{drop-cons}
-use Rattle.grammar.specs.Scans.{slice}
+use Rattle.grammar.specs.helpers.Scans.{slice}
 use Rattle.grammar.proofs.Scans.{slice-none, slice-snoc}
 use Rattle.octets.specs.Numbers.{number}
 use Rattle.date.specs.declared.Tail.{Tail}
 use Rattle.date.specs.declared.Tail.the-variants.{Month, Stops}
-use Rattle.grammar.specs.Words.{begins}
+use Rattle.grammar.specs.helpers.Words.{begins}
 use Rattle.date.specs.Names.{month-names, first-name}
-use Rattle.date.specs.Scan.{index, name-index, month-then}
-use Rattle.grammar.specs.Words.{larger}
-use Rattle.octets.specs.Shapes.{stands-for, fitting}
-use Rattle.date.specs.Shapes.{longest}
+use Rattle.date.specs.helpers.Scan.{index, name-index, month-then}
+use Rattle.grammar.specs.helpers.Words.{larger}
+use Rattle.octets.specs.helpers.Shapes.{stands-for, fitting}
+use Rattle.date.specs.helpers.Shapes.{longest}
 
 next-drop : (xs : List ℕ) (i : ℕ) → i < length xs → drop i xs ≡ getD xs i 0 ∷ drop (i + 1) xs
 next-drop xs i at = drop-cons xs i 0 at ∙ ap (λ (n : ℕ). getD xs i 0 ∷ drop n xs) (sym (add-one i))

@@ -23,7 +23,7 @@ use Rattle.calendar.specs.Instants.{in-range?, told, fields-at, weekday-at}
 use Rattle.calendar.proofs.Dates.{DateIs, date-is}
 use Rattle.calendar.proofs.Demands.{fields-exist}
 use Rattle.date.specs.Names.{month-names, day-names}
-use Rattle.date.specs.Writing.{tens, ones, letter, date-text, instant-text, date-writing, written-output}
+use Rattle.date.specs.Writing.{tens, ones, letter, date-text, instant-text, date-writing, date-output}
 
 -- the text, as its parts are found
 pub text-found : (k : ℕ) (f : Fields) (l1 l2 l3 d1 d2 m1 m2 m3 y1 y2 y3 y4 h1 h2 i1 i2 s1 s2 : ℕ)
@@ -102,7 +102,7 @@ module _ (s : ℤ) where
 
   module _ (old : List ℕ) where
     abbrev pub Answered : Written → List ℕ → Type 0
-    Answered r new = (written r ≡ date-writing s (length old)) × (new ≡ written-output s old)
+    Answered r new = (written r ≡ date-writing s (length old)) × (new ≡ date-output s old)
 
     long : length (instant-text s) ≡ 29
     long = text-length (weekday-at s) (fields-at s)

@@ -3,7 +3,7 @@ use Prim.Native.Nat.{ℕ, suc}
 use mathlib.Core.Bool.{cond}
 use mathlib.Core.List.{List, [], _∷_}
 use mathlib.Core.Option.{Option, none, some}
-use Rattle.grammar.specs.Words.{begins}
+use Rattle.grammar.specs.helpers.Words.{begins}
 
 -- "Jan", "Feb", ..
 abbrev pub month-names : List ℕ

@@ -38,5 +38,5 @@ instant-text s = date-text (weekday-at s) (fields-at s)
 abbrev pub date-writing : ℤ → ℕ → Verdict ℕ
 date-writing s room = writing (not (in-range? s)) (instant-text s) room
 
-abbrev pub written-output : ℤ → List ℕ → List ℕ
-written-output s old = output (date-writing s (length old)) (instant-text s) old
+abbrev pub date-output : ℤ → List ℕ → List ℕ
+date-output s old = output (date-writing s (length old)) (instant-text s) old

@@ -2,16 +2,16 @@
 ghost use mathlib.Core.Path.{_≡_};
 ghost use Prim.Native.Nat.{_+_, _-_, _/_, _%_, _≤_, _<_};
 ghost use lib.ListN.{length, drop, getD};
-ghost use Rattle.grammar.specs.Judge.{header};
-ghost use Rattle.grammar.specs.Scans.{slice};
+ghost use Rattle.grammar.specs.helpers.Judge.{header};
+ghost use Rattle.grammar.specs.helpers.Scans.{slice};
 ghost use Rattle.octets.specs.Numbers.{number};
 ghost use Rattle.octets.specs.Writing.{written};
 ghost use Rattle.date.specs.Grammar.{fixed, plain, full-year, rules};
 ghost use Rattle.date.specs.Reading.{verdict};
-ghost use Rattle.date.specs.Scan.{Goes, AfterDay, AtDashed, dashed-head, name-index, month-then, judged, year-from, Ending};
-ghost use Rattle.date.specs.Writing.{date-text, date-writing, written-output, tens, ones};
-ghost use Rattle.octets.specs.Shapes.{stands-for, fitting};
-ghost use Rattle.date.specs.Shapes.{standing, longest};
+ghost use Rattle.date.specs.helpers.Scan.{Goes, AfterDay, AtDashed, dashed-head, name-index, month-then, judged, year-from, Ending};
+ghost use Rattle.date.specs.Writing.{date-text, date-writing, date-output, tens, ones};
+ghost use Rattle.octets.specs.helpers.Shapes.{stands-for, fitting};
+ghost use Rattle.date.specs.helpers.Shapes.{standing, longest};
 use calendar::Fields;
 use calendar::Located;
 use calendar::Told;
@@ -68,7 +68,7 @@ pub fn read(s: &[u8]) -> Reading
 // Writes an instant at the front of `out`, in the form of RFC 1123, and keeps the rest of `out`.
 pub fn write(seconds: i64, out: &mut [u8]) -> Written
     ensures answers { λ r. ⌜ written r ≡ date-writing seconds (length (now (out .entry))) ⌝ }
-    ensures writes { λ _. ⌜ now (out .exit) ≡ written-output seconds (now (out .entry)) ⌝ }
+    ensures writes { λ _. ⌜ now (out .exit) ≡ date-output seconds (now (out .entry)) ⌝ }
 {
     match calendar::fields_at(seconds) {
         Told::Outside => unwritten(9),

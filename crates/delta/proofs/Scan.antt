@@ -9,12 +9,12 @@ use mathlib.Core.Option.{none, some}
 use lib.Dec.{ltb}
 use lib.ListN.{length}
 use Rattle.grammar.specs.Grammar.{Part, void, empty}
-use Rattle.grammar.specs.Derivative.{deriv}
+use Rattle.grammar.specs.helpers.Derivative.{deriv}
 use Rattle.grammar.specs.Reading as G
 use Rattle.grammar.specs.Reading.{above, refused}
-use Rattle.grammar.specs.Checks.{ahead}
-use Rattle.grammar.specs.Judge.{header}
-use Rattle.grammar.specs.Scans.{slice, from}
+use Rattle.grammar.specs.helpers.Checks.{ahead}
+use Rattle.grammar.specs.helpers.Judge.{header}
+use Rattle.grammar.specs.helpers.Scans.{slice, from}
 use Rattle.grammar.proofs.Loop.{header-short}
 use Rattle.grammar.proofs.Scans.{ends-well, goes-too-far}
 use Rattle.octets.specs.declared.Decimal.the-variants.{Number, Above, Missing}

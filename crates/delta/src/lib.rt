@@ -1,6 +1,6 @@
 // Delta-seconds: RFC 2616 3.3.2.
 ghost use mathlib.Core.Path.{_≡_};
-ghost use Rattle.grammar.specs.Judge.{header};
+ghost use Rattle.grammar.specs.helpers.Judge.{header};
 ghost use Rattle.delta.specs.Grammar.{rules};
 ghost use Rattle.delta.specs.Reading.{verdict};
 use octets::Decimal;

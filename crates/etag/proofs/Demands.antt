@@ -7,7 +7,7 @@ use mathlib.Core.List.{List, [], _∷_}
 use Rattle.grammar.specs.Grammar.{Part, Parses, lower}
 use Rattle.grammar.specs.Reading.{Verdict, value, refused, Answers}
 use Rattle.grammar.specs.Comparing.{outcome, refused-at, compare}
-use Rattle.grammar.specs.Judge.{header}
+use Rattle.grammar.specs.helpers.Judge.{header}
 use Rattle.grammar.proofs.Demands.{answered-exactly}
 use Rattle.grammar.proofs.Comparing.{compare-read, compare-values, compare-swap, compare-chain}
 use Rattle.octets.specs.Bytes.{text?, escaped?}

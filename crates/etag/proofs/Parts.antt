@@ -4,7 +4,7 @@ use mathlib.Core.Path.{_≡_, refl, sym, ap, ap₂, subst, _∙_}
 use mathlib.Core.Logic.{_⊎_, inl, inr}
 use mathlib.Core.List.{List, [], _∷_, _++_}
 use Rattle.grammar.specs.Grammar.{Part, Grammar, empty, byte, _⨾_, _∣_, star, part, spell, fold, Parses}
-use Rattle.grammar.specs.Slices.{Slices}
+use Rattle.grammar.specs.helpers.Slices.{Slices}
 use Rattle.grammar.proofs.Pieces.{slice-is}
 use Rattle.grammar.proofs.Plain.{Plain, plain-empty, plain-byte, plain-seq, plain-either, plain-star, behind-plain, before-plain, plain-part, both-parts}
 use Rattle.grammar.proofs.Slices.{slices}

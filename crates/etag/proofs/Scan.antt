@@ -9,11 +9,11 @@ use mathlib.Core.Option.{none}
 use lib.Dec.{eqb}
 use lib.ListN.{length, getD}
 use Rattle.grammar.specs.Grammar.{Part, Grammar, void, empty, byte, _⨾_, part, rest, fold, lower}
-use Rattle.grammar.specs.Derivative.{live, deriv}
+use Rattle.grammar.specs.helpers.Derivative.{live, deriv}
 use Rattle.grammar.specs.Reading.{Verdict, value, refused}
-use Rattle.grammar.specs.Checks.{ahead}
-use Rattle.grammar.specs.Judge.{turn, judge, header}
-use Rattle.grammar.specs.Scans.{slice, from}
+use Rattle.grammar.specs.helpers.Checks.{ahead}
+use Rattle.grammar.specs.helpers.Judge.{turn, judge, header}
+use Rattle.grammar.specs.helpers.Scans.{slice, from}
 use Rattle.grammar.proofs.Loop.{header-short}
 use Rattle.grammar.proofs.Scans.{goes-on, stops-at, ends-early, first-is, first-not, first-none, ends-well, goes-too-far}
 use Rattle.grammar.proofs.Pieces.{slice-length}
@@ -21,7 +21,7 @@ use Rattle.octets.specs.Case.{agreeing}
 use Rattle.octets.specs.Quoted.{QUOTE, quoted-text, quoted-end}
 use Rattle.scans.proofs.Quoted.{quoted-closed, quoted-bad, quoted-cut-off}
 use Rattle.etag.specs.Grammar.{Name, weak, opaque, mark, opaque-tag, entity-tag, rules}
-use Rattle.etag.specs.Scan.{AfterMark}
+use Rattle.etag.specs.helpers.Scan.{AfterMark}
 
 -- ## The mark
 

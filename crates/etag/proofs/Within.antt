@@ -7,14 +7,14 @@ use lib.Dec.{T}
 use lib.ListN.{length}
 use Rattle.grammar.specs.Grammar.{Part, lower}
 use Rattle.grammar.specs.Reading as G
-use Rattle.grammar.specs.Judge.{header}
-use Rattle.grammar.specs.Slices.{Slices}
+use Rattle.grammar.specs.helpers.Judge.{header}
+use Rattle.grammar.specs.helpers.Slices.{Slices}
 use Rattle.grammar.proofs.Deterministic.{deterministic?}
 use Rattle.grammar.proofs.Pieces.{slice-within, slice-is, value-slices}
 use Rattle.octets.specs.Bytes.{text?, escaped?}
 use Rattle.etag.specs.declared.Tag.{Tag}
 use Rattle.etag.specs.Grammar.{Name, entity-tag, value, rules}
-use Rattle.etag.specs.Scan.{Within}
+use Rattle.etag.specs.helpers.Scan.{Within}
 
 pub one-way : T (deterministic? entity-tag)
 unfolding lower text? escaped?

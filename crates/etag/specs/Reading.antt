@@ -6,7 +6,7 @@ use lib.ListN.{take, drop}
 use Rattle.grammar.specs.Reading as G
 use Rattle.grammar.specs.Reading.{Verdict}
 use Rattle.grammar.specs.Comparing.{Comparison, compare}
-use Rattle.grammar.specs.Judge.{header}
+use Rattle.grammar.specs.helpers.Judge.{header}
 use Rattle.octets.specs.Same.{same?}
 use Rattle.etag.specs.declared.Tag.{Tag}
 use Rattle.etag.specs.declared.Reading.{Reading}

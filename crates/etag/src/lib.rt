@@ -1,11 +1,11 @@
 // Entity tags: RFC 2616 3.11 and, for matching, 13.3.3.
 ghost use mathlib.Core.Path.{_≡_};
 ghost use Rattle.grammar.specs.Comparing.{outcome};
-ghost use Rattle.grammar.specs.Judge.{header};
+ghost use Rattle.grammar.specs.helpers.Judge.{header};
 ghost use Rattle.octets.specs.Comparing.{comparison};
 ghost use Rattle.etag.specs.Grammar.{rules};
 ghost use Rattle.etag.specs.Reading.{verdict, weakly, strongly, weak-matching, strong-matching};
-ghost use Rattle.etag.specs.Scan.{AfterMark, Within};
+ghost use Rattle.etag.specs.helpers.Scan.{AfterMark, Within};
 use octets::Compared;
 use octets::Refusal;
 

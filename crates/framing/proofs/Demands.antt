@@ -7,8 +7,8 @@ use lib.ListN.{length, drop}
 use Rattle.framing.specs.Grammar.{Body, Broken}
 use Rattle.framing.specs.Answer as Answer
 use Rattle.framing.specs.Demand.{Live, BeginsWhole, Unfinished, Malformed, Over, Decodes}
-use Rattle.framing.specs.Machine.{step, emit, live, done, over, start}
-use Rattle.framing.specs.Reading.{judge, decode, decoded, after}
+use Rattle.framing.specs.helpers.Machine.{step, emit, live, done, over, start}
+use Rattle.framing.specs.Reading.{judge, decode, decoded, decode-output}
 use Rattle.framing.proofs.Machines as Machines
 use Rattle.framing.proofs.Judging.{laws}
 use Rattle.framing.proofs.Rooms.{larger}
@@ -47,9 +47,9 @@ module _ (r : ℕ) (s : List ℕ) where
 
 -- "Whole writes the body at the front of the output and keeps the rest"; "No refusal writes into a lent buffer, nor does `more`"
 pub written : (s old : List ℕ)
-    → ((n k : ℕ) (d : List ℕ) → BeginsWhole Body (Broken (length old)) s n k d → after s old ≡ d ++ drop (length d) old)
-    × (((n k : ℕ) → decode (length old) s ≡ Answer.whole n k → ⊥) → after s old ≡ old)
-unfolding after
+    → ((n k : ℕ) (d : List ℕ) → BeginsWhole Body (Broken (length old)) s n k d → decode-output s old ≡ d ++ drop (length d) old)
+    × (((n k : ℕ) → decode (length old) s ≡ Answer.whole n k → ⊥) → decode-output s old ≡ old)
+unfolding decode-output
 written s old = (
   λ n k d w. ap (λ (z : List ℕ). z ++ drop (length z) old) (demands .writes (length old) s n k d w),
   λ f. ap (λ (z : List ℕ). z ++ drop (length z) old) (demands .keeps (length old) s f),

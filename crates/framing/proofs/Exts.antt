@@ -10,8 +10,8 @@ use Rattle.framing.specs.declared.ExtPos.the-variants as ExtPos
 use Rattle.framing.specs.Grammar as G
 use Rattle.octets.specs.Bytes.{token?, text?, escaped?}
 use Rattle.framing.specs.Grammar.{Many, Some, Inside, Value, Extension, Extensions}
-use Rattle.framing.specs.Machine.{extStep, extEnds, extLive}
-use Rattle.framing.specs.Scan.{run}
+use Rattle.framing.specs.helpers.Machine.{extStep, extEnds, extLive}
+use Rattle.framing.specs.helpers.Scan.{run}
 use Rattle.framing.proofs.Scanning.{run-append, run-step}
 use Rattle.framing.proofs.Cases.{false-true, by-cond}
 

@@ -18,8 +18,8 @@ use Rattle.framing.specs.declared.State.{State}
 use Rattle.framing.specs.declared.State.the-variants.{Line, LineFeed, Data, DataCr, DataLf, Trail, EndLf, Done, Dead}
 use Rattle.framing.specs.Grammar as G
 use Rattle.framing.specs.Grammar.{Many, valueFrom, Body, Broken, LINE_LIMIT, TRAILER_LIMIT}
-use Rattle.framing.specs.Machine.{lineStep, lineEnds, lineLive, trailStep, trailEnds, trailLive, leaveLine, enterChunk, step, emit, live, done, pastRoom, over, start}
-use Rattle.framing.specs.Scan.{Verdict, judgeBy, run, out, Quiet}
+use Rattle.framing.specs.helpers.Machine.{lineStep, lineEnds, lineLive, trailStep, trailEnds, trailLive, leaveLine, enterChunk, step, emit, live, done, pastRoom, over, start}
+use Rattle.framing.specs.helpers.Scan.{Verdict, judgeBy, run, out, Quiet}
 use Rattle.framing.proofs.Scanning.{run-append, run-live}
 use Rattle.framing.proofs.Machines.{Laws, judged-none}
 use Rattle.framing.proofs.Cases.{by-cond, to-cond}

@@ -12,8 +12,8 @@ use Rattle.framing.specs.declared.LinePos.the-variants.{First, Size, Ext
 use Rattle.framing.specs.Grammar as G
 use Rattle.octets.specs.Bytes.{hex?, hex-value}
 use Rattle.framing.specs.Grammar.{Many, valueFrom, Extensions, Line}
-use Rattle.framing.specs.Machine.{extStep, extEnds, lineStep, lineEnds, lineLive}
-use Rattle.framing.specs.Scan.{run}
+use Rattle.framing.specs.helpers.Machine.{extStep, extEnds, lineStep, lineEnds, lineLive}
+use Rattle.framing.specs.helpers.Scan.{run}
 use Rattle.framing.proofs.Scanning.{run-append}
 use Rattle.framing.proofs.Cases.{false-true, by-cond}
 use Rattle.framing.proofs.Exts.{extRun, Rest, back, rest-nil, from-between, ext-sound, ext-dead, ext-no-cr, ext-finish, ext-ends-live}

@@ -13,7 +13,7 @@ use lib.Seq.{take-suc, take-take, take-length, length-take-le, take-append-le}
 use Rattle.framing.specs.Demand as Demand
 use Rattle.framing.specs.Answer.{Answer, whole, more, refused}
 use Rattle.framing.specs.Demand.{Unbroken, Unended, BeginsWhole, Unfinished, Reaches, Malformed, Over, Decodes}
-use Rattle.framing.specs.Scan.{Verdict, ended, refusal, verdictOf, judgeBy, Found, going, stop, run, out, Quiet, scan, answer, written}
+use Rattle.framing.specs.helpers.Scan.{Verdict, ended, refusal, verdictOf, judgeBy, Found, going, stop, run, out, Quiet, scan, answer, written}
 use Rattle.framing.proofs.Cases.{false-true}
 use Rattle.framing.proofs.Scanning.{run-append, run-live, Stops, quiet-on, going-quiet, stop-stops, quiet-going, stops-stop, stands, same-scan}
 
@@ -97,8 +97,8 @@ module _ (Body : List ℕ → List ℕ → Type 0) (Broken : ℕ → List ℕ �
         → (live (run step start p) ≡ true) × (done (run step start p) ≡ none) × ((m : ℕ) × (over (run step start p) ≡ some m) × (m ≤ n))
 
   module _ (laws : Laws) where
-    abbrev after : List ℕ → S
-    after p = run step start p
+    abbrev reached : List ℕ → S
+    reached p = run step start p
 
     abbrev Live : List ℕ → Type 0
     Live = Demand.Live Body
@@ -113,53 +113,53 @@ module _ (Body : List ℕ → List ℕ → Type 0) (Broken : ℕ → List ℕ �
     writes s = written data-of (decode s) s
 
     -- ## Beginnings
-    pub live-to : (p : List ℕ) → live (after p) ≡ true → Live p
+    pub live-to : (p : List ℕ) → live (reached p) ≡ true → Live p
     live-to p h =
-        let f : (u : List ℕ) × (t : ℕ) × (done (run step (after p) u) ≡ some t) = laws .finish (after p) h in
+        let f : (u : List ℕ) × (t : ℕ) × (done (run step (reached p) u) ≡ some t) = laws .finish (reached p) h in
         (f .0, data-of (p ++ f .0), laws .body-to (p ++ f .0) (f .1) (ap done (run-append step start p (f .0)) ∙ f .2) .0)
 
-    run-alive : (p u : List ℕ) → live (after (p ++ u)) ≡ true → live (after p) ≡ true
-    run-alive p u h = run-live step live (laws .dead) (after p) u (ap live (sym (run-append step start p u)) ∙ h)
+    run-alive : (p u : List ℕ) → live (reached (p ++ u)) ≡ true → live (reached p) ≡ true
+    run-alive p u h = run-live step live (laws .dead) (reached p) u (ap live (sym (run-append step start p u)) ∙ h)
 
-    body-alive : (p d : List ℕ) → Body p d → live (after p) ≡ true
-    body-alive p d b = laws .alive (after p) (length d) (laws .body-from p d b .0)
+    body-alive : (p d : List ℕ) → Body p d → live (reached p) ≡ true
+    body-alive p d b = laws .alive (reached p) (length d) (laws .body-from p d b .0)
 
-    pub live-from : (p : List ℕ) → Live p → live (after p) ≡ true
+    pub live-from : (p : List ℕ) → Live p → live (reached p) ≡ true
     live-from p l = run-alive p (l .0) (body-alive (p ++ l .0) (l .1) (l .2))
 
     pub prefix-free : (p : List ℕ) (b : ℕ) (q d e : List ℕ) → Body p d → Body (p ++ (b ∷ q)) e → ⊥
     prefix-free p b q d e x y =
-        let h : live (after (p ++ (b ∷ []))) ≡ true
-        = run-alive (p ++ (b ∷ [])) q (subst (λ (z : List ℕ). live (after z) ≡ true) (sym (append-assoc p (b ∷ []) q)) (body-alive (p ++ (b ∷ q)) e y)) in
-        false-true (sym (laws .last (after p) (length d) b (laws .body-from p d x .0)) ∙ ap live (sym (run-append step start p (b ∷ []))) ∙ h)
+        let h : live (reached (p ++ (b ∷ []))) ≡ true
+        = run-alive (p ++ (b ∷ [])) q (subst (λ (z : List ℕ). live (reached z) ≡ true) (sym (append-assoc p (b ∷ []) q)) (body-alive (p ++ (b ∷ q)) e y)) in
+        false-true (sym (laws .last (reached p) (length d) b (laws .body-from p d x .0)) ∙ ap live (sym (run-append step start p (b ∷ []))) ∙ h)
 
     pub one-reading : (p d e : List ℕ) → Body p d → Body p e → d ≡ e
     one-reading p d e x y = sym (laws .body-from p d x .1) ∙ laws .body-from p e y .1
 
     -- ## The verdict that each kind of beginning gets
-    body-judged : (p d : List ℕ) → Body p d → judge (after p) ≡ some (ended (length d))
+    body-judged : (p d : List ℕ) → Body p d → judge (reached p) ≡ some (ended (length d))
     body-judged p d b =
-        judged (live (after p)) true (done (after p)) (some (length d)) (over (after p)) (over (after p)) (body-alive p d b) (laws .body-from p d b .0) refl
+        judged (live (reached p)) true (done (reached p)) (some (length d)) (over (reached p)) (over (reached p)) (body-alive p d b) (laws .body-from p d b .0) refl
 
-    dead-judged : (p : List ℕ) → (Live p → ⊥) → judge (after p) ≡ some (refusal 1)
-    dead-judged p n = go (live (after p)) refl
+    dead-judged : (p : List ℕ) → (Live p → ⊥) → judge (reached p) ≡ some (refusal 1)
+    dead-judged p n = go (live (reached p)) refl
       where
-        go : (l : Bool) → live (after p) ≡ l → judge (after p) ≡ some (refusal 1)
+        go : (l : Bool) → live (reached p) ≡ l → judge (reached p) ≡ some (refusal 1)
         go true e = absurd (n (live-to p e))
-        go false e = judged (live (after p)) false (done (after p)) (done (after p)) (over (after p)) (over (after p)) e refl refl
+        go false e = judged (live (reached p)) false (done (reached p)) (done (reached p)) (over (reached p)) (over (reached p)) e refl refl
 
-    broken-judged : (p : List ℕ) (n : ℕ) → Broken n p → (m : ℕ) × (judge (after p) ≡ some (refusal m)) × (over (after p) ≡ some m) × (m ≤ n)
+    broken-judged : (p : List ℕ) (n : ℕ) → Broken n p → (m : ℕ) × (judge (reached p) ≡ some (refusal m)) × (over (reached p) ≡ some m) × (m ≤ n)
     broken-judged p n b =
-        let w : (live (after p) ≡ true) × (done (after p) ≡ none) × ((m : ℕ) × (over (after p) ≡ some m) × (m ≤ n)) = laws .over-from p n b in (
+        let w : (live (reached p) ≡ true) × (done (reached p) ≡ none) × ((m : ℕ) × (over (reached p) ≡ some m) × (m ≤ n)) = laws .over-from p n b in (
           w .2 .0,
-          judged (live (after p)) true (done (after p)) none (over (after p)) (some (w .2 .0)) (w .0) (w .1) (w .2 .1),
+          judged (live (reached p)) true (done (reached p)) none (over (reached p)) (some (w .2 .0)) (w .0) (w .1) (w .2 .1),
           w .2 .1,
           w .2 .2,
         )
 
     module _ (s : List ℕ) where
       abbrev front : ℕ → S
-      front i = after (take i s)
+      front i = reached (take i s)
 
       abbrev Still : ℕ → Type 0
       Still n = Quiet step judge start s n
@@ -168,7 +168,7 @@ module _ (Body : List ℕ → List ℕ → Type 0) (Broken : ℕ → List ℕ �
       split-take i j h = ap (λ (z : List ℕ). z ++ drop i (take j s)) (sym (take-take i j s h)) ∙ take-append-drop i (take j s)
 
       alive-below : (i j : ℕ) → i ≤ j → live (front j) ≡ true → live (front i) ≡ true
-      alive-below i j h l = run-alive (take i s) (drop i (take j s)) (ap (λ (z : List ℕ). live (after z)) (split-take i j h) ∙ l)
+      alive-below i j h l = run-alive (take i s) (drop i (take j s)) (ap (λ (z : List ℕ). live (reached z)) (split-take i j h) ∙ l)
 
       still-below : (i j : ℕ) → i ≤ j → Still j → Still i
       still-below i j h k n l = k n (omega arith)
@@ -180,16 +180,16 @@ module _ (Body : List ℕ → List ℕ → Type 0) (Broken : ℕ → List ℕ �
           let e : take (suc i) s ≡ take i s ++ (getD s i 0 ∷ []) = take-suc s i 0 h in
           let w : Broken n (take i s ++ (getD s i 0 ∷ [])) × (n ≡ 1 → ⊥)
           = laws .over-to (take i s) (getD s i 0) n (λ m g. short m (omega (arith, g, length-take-le i s (omega arith))))
-          (ap (λ (z : List ℕ). live (after z)) (sym e) ∙ l) (ap (λ (z : List ℕ). over (after z)) (sym e) ∙ o) in
+          (ap (λ (z : List ℕ). live (reached z)) (sym e) ∙ l) (ap (λ (z : List ℕ). over (reached z)) (sym e) ∙ o) in
           (subst (Broken n) (sym e) (w .0), w .1)
         where
-          short : (m : ℕ) → m ≤ i → judge (after (take m (take i s))) ≡ none
-          short m g = ap (λ (z : List ℕ). judge (after z)) (take-take m i s g) ∙ k m g
+          short : (m : ℕ) → m ≤ i → judge (reached (take m (take i s))) ≡ none
+          short m g = ap (λ (z : List ℕ). judge (reached z)) (take-take m i s g) ∙ k m g
 
       -- nothing but a dead byte follows a body
       ended-dead : (i : ℕ) (d : List ℕ) → i < length s → Body (take i s) d → live (front (suc i)) ≡ false
       ended-dead i d h b =
-          ap (λ (z : List ℕ). live (after z)) (take-suc s i 0 h)
+          ap (λ (z : List ℕ). live (reached z)) (take-suc s i 0 h)
           ∙ ap live (run-append step start (take i s) (getD s i 0 ∷ []))
           ∙ laws .last (front i) (length d) (getD s i 0) (laws .body-from (take i s) d b .0)
 
@@ -259,7 +259,7 @@ module _ (Body : List ℕ → List ℕ → Type 0) (Broken : ℕ → List ℕ �
       unfolding answer
       more-from w =
           ap answer (quiet-going step judge start s (laws .opens)
-          (still (length s) (omega arith) (ap (λ (z : List ℕ). live (after z)) (take-length s) ∙ live-from s (w .live)) (w .unbroken) (w .unended)))
+          (still (length s) (omega arith) (ap (λ (z : List ℕ). live (reached z)) (take-length s) ∙ live-from s (w .live)) (w .unbroken) (w .unended)))
 
       refusal-of : (n j : ℕ) → Stops step judge start s j (refusal n)
           → ((live (front (suc j)) ≡ false) × (n ≡ 1)) ⊎ ((live (front (suc j)) ≡ true) × (over (front (suc j)) ≡ some n))

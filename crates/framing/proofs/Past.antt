@@ -17,8 +17,8 @@ use Rattle.framing.specs.declared.State.the-variants.{Line, LineFeed, Da
 use Rattle.framing.specs.Grammar as G
 use Rattle.octets.specs.Bytes.{octet?}
 use Rattle.framing.specs.Grammar.{Many, Chunk, Chunks, Body}
-use Rattle.framing.specs.Machine.{lineStep, lineEnds, trailStep, trailEnds, leaveLine, enterChunk, step, emit, start}
-use Rattle.framing.specs.Scan.{run, out}
+use Rattle.framing.specs.helpers.Machine.{lineStep, lineEnds, trailStep, trailEnds, leaveLine, enterChunk, step, emit, start}
+use Rattle.framing.specs.helpers.Scan.{run, out}
 use Rattle.framing.proofs.Scanning.{run-append}
 use Rattle.framing.proofs.Cases.{false-true, to-cond}
 use Rattle.framing.proofs.Lines.{lineRun, line-complete}

@@ -16,8 +16,8 @@ use Rattle.framing.specs.declared.TrailPos.{TrailPos}
 use Rattle.framing.specs.declared.State.{State}
 use Rattle.framing.specs.declared.State.the-variants.{Line, LineFeed, Data, DataCr, DataLf, Trail, EndLf, Done, Dead}
 use Rattle.framing.specs.Grammar.{LINE_LIMIT, TRAILER_LIMIT}
-use Rattle.framing.specs.Machine.{lineStep, lineEnds, extEnds, trailStep, trailEnds, leaveLine, enterChunk, step, pastRoom, over}
-use Rattle.framing.specs.Scan.{run}
+use Rattle.framing.specs.helpers.Machine.{lineStep, lineEnds, extEnds, trailStep, trailEnds, leaveLine, enterChunk, step, pastRoom, over}
+use Rattle.framing.specs.helpers.Scan.{run}
 use Rattle.framing.proofs.Cases.{by-cond, to-cond}
 
 -- the size that a line has read so far

@@ -8,7 +8,7 @@ use Prim.Native.Nat.{ℕ, zero, suc, _+_, _<_}
 use native.Mathlib.Decide.{ℕ-discrete, decLt}
 use native.Mathlib.Omega.{arith}
 use lib.ListN.{length, take}
-use Rattle.framing.specs.Scan.{Found, going, stop, note, run, out, Quiet, scan}
+use Rattle.framing.specs.helpers.Scan.{Found, going, stop, note, run, out, Quiet, scan}
 
 module _ {S : Type 0} (step : S → ℕ → S) where
   pub run-append : (s : S) (xs ys : List ℕ) → run step s (xs ++ ys) ≡ run step (run step s xs) ys

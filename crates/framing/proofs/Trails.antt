@@ -10,8 +10,8 @@ use Rattle.framing.specs.declared.TrailPos.the-variants.{Start, Field, C
 use Rattle.framing.specs.Grammar as G
 use Rattle.octets.specs.Bytes.{token?, content?}
 use Rattle.framing.specs.Grammar.{Many, Some, Trailer}
-use Rattle.framing.specs.Machine.{trailStep, trailEnds, trailLive}
-use Rattle.framing.specs.Scan.{run}
+use Rattle.framing.specs.helpers.Machine.{trailStep, trailEnds, trailLive}
+use Rattle.framing.specs.helpers.Scan.{run}
 use Rattle.framing.proofs.Scanning.{run-append, run-step}
 use Rattle.framing.proofs.Cases.{false-true, by-cond}
 

@@ -5,8 +5,8 @@ use Prim.Native.Nat.{ℕ}
 use lib.ListN.{length, drop}
 use Rattle.framing.specs.declared.State.{State}
 use Rattle.framing.specs.Answer.{Answer}
-use Rattle.framing.specs.Scan.{Verdict, judgeBy, scan, out, answer, written}
-use Rattle.framing.specs.Machine.{step, emit, live, done, over, start}
+use Rattle.framing.specs.helpers.Scan.{Verdict, judgeBy, scan, out, answer, written}
+use Rattle.framing.specs.helpers.Machine.{step, emit, live, done, over, start}
 
 -- the verdict on the byte that led to a state
 unfoldable pub judge : ℕ → State → Option Verdict
@@ -21,5 +21,5 @@ unfoldable pub decoded : ℕ → List ℕ → List ℕ
 decoded room xs = written (out step emit start) (decode room xs) xs
 
 -- the lent bytes after the answer: the data at the front, then what stood there
-unfoldable pub after : List ℕ → List ℕ → List ℕ
-after xs old = decoded (length old) xs ++ drop (length (decoded (length old) xs)) old
+unfoldable pub decode-output : List ℕ → List ℕ → List ℕ
+decode-output xs old = decoded (length old) xs ++ drop (length (decoded (length old) xs)) old

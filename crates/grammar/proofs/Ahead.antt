@@ -5,9 +5,9 @@ use mathlib.Core.Bool.{Bool, true, false, cond, true≢false}
 use mathlib.Core.List.{List, [], _∷_, _++_}
 use lib.Dec.{T}
 use Rattle.grammar.specs.Grammar.{Class, Part, Grammar, void, empty, byte, _⨾_, _∣_, star, part, rest, nest}
-use Rattle.grammar.specs.Derivative.{deriv, ends, then, live, nullable}
-use Rattle.grammar.specs.Judge.{held}
-use Rattle.grammar.specs.Checks.{clear?, ahead}
+use Rattle.grammar.specs.helpers.Derivative.{deriv, ends, then, live, nullable}
+use Rattle.grammar.specs.helpers.Judge.{held}
+use Rattle.grammar.specs.helpers.Checks.{clear?, ahead}
 
 module _ {L : Type 0} where
   module _ (c : Part L) where

@@ -5,10 +5,10 @@ use mathlib.Core.List.{List}
 use lib.ListN.{length, getD}
 use lib.Seq.{drop-cons}
 use Rattle.grammar.specs.Grammar.{Part, Grammar}
-use Rattle.grammar.specs.Derivative.{deriv}
+use Rattle.grammar.specs.helpers.Derivative.{deriv}
 use Rattle.grammar.specs.Reading.{Rules}
-use Rattle.grammar.specs.Checks.{ahead}
-use Rattle.grammar.specs.Scans.{from}
+use Rattle.grammar.specs.helpers.Checks.{ahead}
+use Rattle.grammar.specs.helpers.Scans.{from}
 use Rattle.grammar.proofs.Ahead.{ahead-deriv}
 
 module _ {L A : Type 0} (r : Rules L A) (s : List ℕ) (cs : List (Part L)) where

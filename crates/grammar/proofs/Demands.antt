@@ -7,9 +7,9 @@ use lib.Dec.{T}
 use Rattle.grammar.specs.Grammar.{Part, Grammar, Parses}
 use Rattle.grammar.specs.Beginnings.{Longest}
 use Rattle.grammar.specs.Reading.{Rules, Verdict, Answers}
-use Rattle.grammar.specs.Derivative.{live, reach}
-use Rattle.grammar.specs.Judge.{header}
-use Rattle.grammar.specs.Checks.{fresh?}
+use Rattle.grammar.specs.helpers.Derivative.{live, reach}
+use Rattle.grammar.specs.helpers.Judge.{header}
+use Rattle.grammar.specs.helpers.Checks.{fresh?}
 use Rattle.grammar.proofs.Exact as Exact
 use Rattle.grammar.proofs.Deterministic.{deterministic?, deterministic-steady}
 use Rattle.grammar.proofs.Reach.{reach-longest}

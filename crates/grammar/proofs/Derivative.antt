@@ -7,7 +7,7 @@ use mathlib.Core.Bool.{Bool, true, false, cond, _&&_, _||_}
 use mathlib.Core.List.{List, [], _∷_, _++_, nil≢cons, cons≢nil, append-nil, append-assoc, head-eq-of-cons-eq, tail-eq-of-cons-eq}
 use lib.Dec.{T}
 use Rattle.grammar.specs.Grammar.{Class, Part, Grammar, void, empty, byte, _⨾_, _∣_, star, part, rest, nest, Nest, out, item, opens, closes, Parses, Many, none, more, past, grown, T-left, T-right}
-use Rattle.grammar.specs.Derivative.{nullable, then, seq, alt, or-else, during, inside, closed, ends, deriv, after}
+use Rattle.grammar.specs.helpers.Derivative.{nullable, then, seq, alt, or-else, during, inside, closed, ends, deriv, residual}
 
 pub T-true : (x : Bool) → T x → x ≡ true
 T-true true p = refl
@@ -456,6 +456,6 @@ module _ {L : Type 0} where
   deriv-means g i b s ps = (deriv-of g i b s ps, of-deriv g i b s ps)
 
   -- along a text: what is left of g after p
-  pub after-means : (g : Grammar L) (i : ℕ) (p s : List ℕ) (ps : List (Part L)) → Parses g i (p ++ s) ps ↔ Parses (after g i p) (past i p) s ps
+  pub after-means : (g : Grammar L) (i : ℕ) (p s : List ℕ) (ps : List (Part L)) → Parses g i (p ++ s) ps ↔ Parses (residual g i p) (past i p) s ps
   after-means g i [] s ps = Iff·rfl
   after-means g i (b ∷ p) s ps = Iff·trans (deriv-means g i b (p ++ s) ps) (after-means (deriv g i b) (suc i) p s ps)

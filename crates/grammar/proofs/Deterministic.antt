@@ -9,8 +9,8 @@ use mathlib.Core.List.{List, [], _∷_, _++_}
 use lib.Dec.{T, T-not, eqb, ltb→lt}
 use borrow.Author.Tests.{eqb-true, eqb-false}
 use Rattle.grammar.specs.Grammar.{Class, Grammar, void, empty, byte, _⨾_, _∣_, star, part, rest, nest, T-left, T-right}
-use Rattle.grammar.specs.Derivative.{nullable, alt, deriv}
-use Rattle.grammar.specs.Checks.{fresh?}
+use Rattle.grammar.specs.helpers.Derivative.{nullable, alt, deriv}
+use Rattle.grammar.specs.helpers.Checks.{fresh?}
 use Rattle.grammar.proofs.Derivative.{T-both, T-or, T-case}
 use Rattle.grammar.proofs.Shapes.{alt-void, byte-step}
 use Rattle.grammar.proofs.Exact.{Steady}

@@ -12,10 +12,10 @@ use lib.ListN.{length, take, length-append, drop, take-append-drop}
 use lib.Seq.{take-at, take-length, take-append-add}
 use Rattle.grammar.specs.Grammar.{Part, Grammar, Parses, past, bytes?}
 use Rattle.grammar.specs.Beginnings.{Matches, Live, Longest}
-use Rattle.grammar.specs.Derivative.{live, nullable, deriv, ends, after}
-use Rattle.grammar.specs.Reading.{value-limit, Limit, Fault, limit-number, fault-number, Rules, cut, SoFar, Breaks, Sound, Verdict, value, refused, Answers, too-long, malformed, breaks, faulty, reads}
-use Rattle.grammar.specs.Judge.{held, unless, turn, unless-fault, finished, judge, header}
-use Rattle.grammar.specs.Checks.{fresh?, still?, clear?}
+use Rattle.grammar.specs.helpers.Derivative.{live, nullable, deriv, ends, residual}
+use Rattle.grammar.specs.Reading.{value-limit, Limit, Fault, limit-number, fault-number, Rules, parts-before, SoFar, Breaks, Sound, Verdict, value, refused, Answers, too-long, malformed, breaks, faulty, reads}
+use Rattle.grammar.specs.helpers.Judge.{held, unless, turn, unless-fault, finished, judge, header}
+use Rattle.grammar.specs.helpers.Checks.{fresh?, still?, clear?}
 use Rattle.grammar.proofs.Derivative.{T-true, T-false, after-means, to-ends, of-ends}
 use Rattle.grammar.proofs.Longest.{past-length, past-snoc, after-snoc, live-of, text-of, nullable-of, of-nullable, live-computed, live-front}
 use Rattle.grammar.proofs.Held.{fresh-begun, begun-after, held-cut, held-end, still-ends}
@@ -47,46 +47,46 @@ some-inj e = cc
 module _ {L : Type 0} where
   -- on every way through the grammar the parts that have begun are the same
   abbrev pub Steady : Grammar L → Type 0
-  Steady g = (p : List ℕ) → T (clear? (after g 0 p)) × T (clear? (ends (after g 0 p) (past 0 p)))
+  Steady g = (p : List ℕ) → T (clear? (residual g 0 p)) × T (clear? (ends (residual g 0 p) (past 0 p)))
 
 module _ {L A : Type 0} (r : Rules L A) (fresh : T (fresh? (r .grammar))) (steady : Steady (r .grammar)) where
   abbrev g : Grammar L
   g = r .grammar
 
-  begun-parts : (p t : List ℕ) (qs : List (Part L)) → Parses (after g 0 p) (past 0 p) t qs → cut (length p) qs ≡ held (after g 0 p)
+  begun-parts : (p t : List ℕ) (qs : List (Part L)) → Parses (residual g 0 p) (past 0 p) t qs → parts-before (length p) qs ≡ held (residual g 0 p)
   begun-parts p t qs m =
-      ap (λ (n : ℕ). cut n qs) (sym (at-end p))
-      ∙ held-cut (after g 0 p) (past 0 p) t qs (begun-after g 0 p (fresh-begun g 0 fresh)) (steady p .0) m
+      ap (λ (n : ℕ). parts-before n qs) (sym (at-end p))
+      ∙ held-cut (residual g 0 p) (past 0 p) t qs (begun-after g 0 p (fresh-begun g 0 fresh)) (steady p .0) m
 
-  pub so-far : (p : List ℕ) (ps : List (Part L)) → SoFar r p ps → T (live (after g 0 p)) × (ps ≡ held (after g 0 p))
+  pub so-far : (p : List ℕ) (ps : List (Part L)) → SoFar r p ps → T (live (residual g 0 p)) × (ps ≡ held (residual g 0 p))
   so-far p ps v =
       let m = after-means g 0 p (v .0) (v .1) .0 (v .3) in
-      (live-of (after g 0 p) (past 0 p) (v .0) (v .1) m, v .4 ∙ begun-parts p (v .0) (v .1) m)
+      (live-of (residual g 0 p) (past 0 p) (v .0) (v .1) m, v .4 ∙ begun-parts p (v .0) (v .1) m)
 
-  pub of-live : (p : List ℕ) → T (live (after g 0 p)) → SoFar r p (held (after g 0 p))
+  pub of-live : (p : List ℕ) → T (live (residual g 0 p)) → SoFar r p (held (residual g 0 p))
   of-live p l =
-      let x = text-of (after g 0 p) (past 0 p) l in
+      let x = text-of (residual g 0 p) (past 0 p) l in
       (x .0, x .1, x .2, after-means g 0 p (x .0) (x .1) .1 (x .3), sym (begun-parts p (x .0) (x .1) (x .3)))
 
   abbrev parts : List ℕ → List (Part L)
-  parts s = held (ends (after g 0 s) (past 0 s))
+  parts s = held (ends (residual g 0 s) (past 0 s))
 
-  end-parts : (s : List ℕ) (ps : List (Part L)) → Parses (after g 0 s) (past 0 s) [] ps → ps ≡ parts s
+  end-parts : (s : List ℕ) (ps : List (Part L)) → Parses (residual g 0 s) (past 0 s) [] ps → ps ≡ parts s
   end-parts s ps m =
-      held-end (ends (after g 0 s) (past 0 s)) (past 0 s) ps (steady s .1) (still-ends (after g 0 s) (past 0 s)) (to-ends (after g 0 s) (past 0 s) (past 0 s) ps m)
+      held-end (ends (residual g 0 s) (past 0 s)) (past 0 s) ps (steady s .1) (still-ends (residual g 0 s) (past 0 s)) (to-ends (residual g 0 s) (past 0 s) (past 0 s) ps m)
 
-  pub parse-end : (s : List ℕ) (ps : List (Part L)) → Parses g 0 s ps → T (nullable (after g 0 s)) × (ps ≡ parts s)
+  pub parse-end : (s : List ℕ) (ps : List (Part L)) → Parses g 0 s ps → T (nullable (residual g 0 s)) × (ps ≡ parts s)
   parse-end s ps m =
       let n = after-means g 0 s [] ps .0 (rw append-nil m) in
-      (nullable-of (after g 0 s) (past 0 s) ps n, end-parts s ps n)
+      (nullable-of (residual g 0 s) (past 0 s) ps n, end-parts s ps n)
 
   -- a text has one list of parts
   pub one-parse : (s : List ℕ) (ps qs : List (Part L)) → Parses g 0 s ps → Parses g 0 s qs → ps ≡ qs
   one-parse s ps qs m n = parse-end s ps m .1 ∙ sym (parse-end s qs n .1)
 
-  pub end-parse : (s : List ℕ) → T (nullable (after g 0 s)) → Parses g 0 s (parts s)
+  pub end-parse : (s : List ℕ) → T (nullable (residual g 0 s)) → Parses g 0 s (parts s)
   end-parse s n =
-      let x = of-nullable (after g 0 s) (past 0 s) n in
+      let x = of-nullable (residual g 0 s) (past 0 s) n in
       let m = after-means g 0 s [] (x .0) .1 (x .1) in
       rw (append-nil, end-parts s (x .0) (x .1)) at m
 
@@ -98,7 +98,7 @@ module _ {L A : Type 0} (r : Rules L A) (fresh : T (fresh? (r .grammar))) (stead
     finish-whole m q none e = reads short m q e
     finish-whole m q (some f) e = faulty short m q e
 
-    finish : (p : List ℕ) → s ≡ p → T (live (after g 0 p)) → Sound r s (length p) → (x : Bool) → nullable (after g 0 p) ≡ x
+    finish : (p : List ℕ) → s ≡ p → T (live (residual g 0 p)) → Sound r s (length p) → (x : Bool) → nullable (residual g 0 p) ≡ x
         → Answers r s (cond x (finished r (parts p)) (refused 1 (past 0 p)))
     finish p e l q true f =
         rw (← e) (finish-whole (end-parse s (rw (e, f) tt)) (rw (← e) at q) (r .fault (parts s)) refl)
@@ -129,7 +129,7 @@ module _ {L A : Type 0} (r : Rules L A) (fresh : T (fresh? (r .grammar))) (stead
           let f : m ≡ length on + (m - suc (length p)) = omega (arith, on-length) in
           ap (λ (l : List ℕ). take m l) all ∙ ap (λ (n : ℕ). take n (on ++ t)) f ∙ take-append-add on t (m - suc (length p))
 
-      dead : T (live (after g 0 p)) → Sound r s (length p) → (T (live (after g 0 on)) → ⊥) → Answers r s (refused 1 (length p))
+      dead : T (live (residual g 0 p)) → Sound r s (length p) → (T (live (residual g 0 on)) → ⊥) → Answers r s (refused 1 (length p))
       dead l q d =
           malformed {p = length p} short
           (λ m. d (live-front g on t ([], tt, (m .0, rw (append-nil, ← all) (m .1)))))
@@ -144,11 +144,11 @@ module _ {L A : Type 0} (r : Rules L A) (fresh : T (fresh? (r .grammar))) (stead
           longer m v true f = absurd (d (live-front g on (take (m - suc (length p)) t) (rw (beyond m (ltb-true (length p) m f)) at v)))
           longer m v false f = ltb-false (length p) m f
 
-      over : (x : Limit) → T (live (after g 0 on)) → Sound r s (length p) → r .limit (length p) (held (after g 0 on)) ≡ some x
+      over : (x : Limit) → T (live (residual g 0 on)) → Sound r s (length p) → r .limit (length p) (held (residual g 0 on)) ≡ some x
           → Answers r s (refused (limit-number x) (length p))
-      over x l q f = breaks {l = x} {p = length p} short (omega (arith, within), (held (after g 0 on), rw through (of-live on l), f)) q
+      over x l q f = breaks {l = x} {p = length p} short (omega (arith, within), (held (residual g 0 on), rw through (of-live on l), f)) q
 
-      sound : Sound r s (length p) → r .limit (length p) (held (after g 0 on)) ≡ none → Sound r s (length on)
+      sound : Sound r s (length p) → r .limit (length p) (held (residual g 0 on)) ≡ none → Sound r s (length on)
       sound q f k x h br =
           ⊎-elim (λ y. q k x y br)
           (λ y.
@@ -157,24 +157,24 @@ module _ {L A : Type 0} (r : Rules L A) (fresh : T (fresh? (r .grammar))) (stead
           none-some (sym f ∙ sym (ap (r .limit (length p)) (w .1)) ∙ sym (ap (λ (j : ℕ). r .limit j (br .1 .0)) y) ∙ br .1 .2))
           (below k (length p) (omega (arith, on-length)))
 
-    step : (p : List ℕ) (b : ℕ) (t : List ℕ) → s ≡ p ++ (b ∷ t) → T (live (after g 0 p)) → Sound r s (length p) → (x : Bool) (y : Option Limit)
-        → live (after g 0 (p ++ b ∷ [])) ≡ x → r .limit (length p) (held (after g 0 (p ++ b ∷ []))) ≡ y
-        → (s ≡ (p ++ b ∷ []) ++ t → T (live (after g 0 (p ++ b ∷ []))) → Sound r s (length (p ++ b ∷ [])) → Answers r s (judge r (after g 0 (p ++ b ∷ [])) t (past 0 (p ++ b ∷ []))))
-        → Answers r s (cond x (unless y (length p) (judge r (after g 0 (p ++ b ∷ [])) t (past 0 (p ++ b ∷ [])))) (refused 1 (length p)))
+    step : (p : List ℕ) (b : ℕ) (t : List ℕ) → s ≡ p ++ (b ∷ t) → T (live (residual g 0 p)) → Sound r s (length p) → (x : Bool) (y : Option Limit)
+        → live (residual g 0 (p ++ b ∷ [])) ≡ x → r .limit (length p) (held (residual g 0 (p ++ b ∷ []))) ≡ y
+        → (s ≡ (p ++ b ∷ []) ++ t → T (live (residual g 0 (p ++ b ∷ []))) → Sound r s (length (p ++ b ∷ [])) → Answers r s (judge r (residual g 0 (p ++ b ∷ [])) t (past 0 (p ++ b ∷ []))))
+        → Answers r s (cond x (unless y (length p) (judge r (residual g 0 (p ++ b ∷ [])) t (past 0 (p ++ b ∷ [])))) (refused 1 (length p)))
     step p b t e l q true none f h k = k (all p b t e) (rw f tt) (sound p b t e q h)
     step p b t e l q true (some x) f h k = over p b t e x (rw f tt) q h
     step p b t e l q false y f h k = dead p b t e l q (λ z. rw f at z)
 
     turned : (p : List ℕ) (b : ℕ) (t : List ℕ)
-        → judge r (after g 0 p) (b ∷ t) (past 0 p)
-        ≡ turn (live (after g 0 (p ++ b ∷ []))) (r .limit (length p) (held (after g 0 (p ++ b ∷ [])))) (length p) (judge r (after g 0 (p ++ b ∷ [])) t (past 0 (p ++ b ∷ [])))
+        → judge r (residual g 0 p) (b ∷ t) (past 0 p)
+        ≡ turn (live (residual g 0 (p ++ b ∷ []))) (r .limit (length p) (held (residual g 0 (p ++ b ∷ [])))) (length p) (judge r (residual g 0 (p ++ b ∷ [])) t (past 0 (p ++ b ∷ [])))
     turned p b t = rw (after-snoc g 0 p b, past-snoc 0 p b, ← at-end p)
 
-    walk : (p t : List ℕ) → s ≡ p ++ t → T (live (after g 0 p)) → Sound r s (length p) → Answers r s (judge r (after g 0 p) t (past 0 p))
-    walk p [] e l q = finish p (e ∙ append-nil p) l q (nullable (after g 0 p)) refl
+    walk : (p t : List ℕ) → s ≡ p ++ t → T (live (residual g 0 p)) → Sound r s (length p) → Answers r s (judge r (residual g 0 p) t (past 0 p))
+    walk p [] e l q = finish p (e ∙ append-nil p) l q (nullable (residual g 0 p)) refl
     walk p (b ∷ t) e l q =
         rw (turned p b t)
-        (step p b t e l q (live (after g 0 (p ++ b ∷ []))) (r .limit (length p) (held (after g 0 (p ++ b ∷ [])))) refl refl (walk (p ++ b ∷ []) t))
+        (step p b t e l q (live (residual g 0 (p ++ b ∷ []))) (r .limit (length p) (held (residual g 0 (p ++ b ∷ [])))) refl refl (walk (p ++ b ∷ []) t))
 
   pub judged : (s : List ℕ) → T (live g) → Answers r s (header r s)
   judged s l = go (ltb value-limit (length s)) refl
@@ -197,7 +197,7 @@ module _ {L A : Type 0} (r : Rules L A) (fresh : T (fresh? (r .grammar))) (stead
   same-limit s x y p k h c z =
       some-inj
       (sym (c .1 .2) ∙ ap (r .limit p) (so-far (take (suc p) s) (c .1 .0) (c .1 .1) .1)
-      ∙ ap (λ (j : ℕ). r .limit j (held (after g 0 (take (suc j) s)))) h
+      ∙ ap (λ (j : ℕ). r .limit j (held (residual g 0 (take (suc j) s)))) h
       ∙ sym (ap (r .limit k) (so-far (take (suc k) s) (z .1 .0) (z .1 .1) .1)) ∙ z .1 .2)
 
   pub only : (s : List ℕ) (v w : Verdict A) → Answers r s v → Answers r s w → v ≡ w

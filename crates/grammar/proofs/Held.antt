@@ -10,10 +10,10 @@ use lib.Dec.{T, ltb}
 use lib.ListN.{length, take, length-append}
 use lib.Seq.{take-at, take-length}
 use Rattle.grammar.specs.Grammar.{Class, Part, Grammar, void, empty, byte, _⨾_, _∣_, star, part, rest, nest, Nest, out, item, opens, closes, Parses, Many, none, more, past, grown, bytes?, T-left, T-right}
-use Rattle.grammar.specs.Derivative.{then, seq, alt, or-else, during, inside, closed, deriv, ends, after}
-use Rattle.grammar.specs.Reading.{cut}
-use Rattle.grammar.specs.Judge.{held}
-use Rattle.grammar.specs.Checks.{fresh?, still?, clear?}
+use Rattle.grammar.specs.helpers.Derivative.{then, seq, alt, or-else, during, inside, closed, deriv, ends, residual}
+use Rattle.grammar.specs.Reading.{parts-before}
+use Rattle.grammar.specs.helpers.Judge.{held}
+use Rattle.grammar.specs.helpers.Checks.{fresh?, still?, clear?}
 use Rattle.grammar.proofs.Derivative.{T-both, seq-nil, split-nil}
 use Rattle.grammar.proofs.Longest.{past-length, past-snoc}
 use Rattle.grammar.proofs.Shapes.{seq-void}
@@ -26,38 +26,38 @@ module _ {L : Type 0} where
   kept true c l m q e = ap (λ (k : List (Part L)). c ∷ k) e
   kept false c l m q e = e
 
-  pub cut-append : (n : ℕ) (ps qs : List (Part L)) → cut n (ps ++ qs) ≡ cut n ps ++ cut n qs
+  pub cut-append : (n : ℕ) (ps qs : List (Part L)) → parts-before n (ps ++ qs) ≡ parts-before n ps ++ parts-before n qs
   cut-append n [] qs = refl
   cut-append n (c ∷ ps) qs =
-      kept (ltb (c .start) n) (record { label = c .label; start = c .start; text = take (n - c .start) (c .text) }) (cut n (ps ++ qs)) (cut n ps) (cut n qs)
+      kept (ltb (c .start) n) (record { label = c .label; start = c .start; text = take (n - c .start) (c .text) }) (parts-before n (ps ++ qs)) (parts-before n ps) (parts-before n qs)
       (cut-append n ps qs)
 
   -- a text of a fresh grammar has no part that begins before it
-  fresh-many : (i j : ℕ) (P : ℕ → List ℕ → List (Part L) → Type 0) → ((k : ℕ) (t : List ℕ) (ps : List (Part L)) → i ≤ k → P k t ps → cut i ps ≡ [])
-      → i ≤ j → (l : List ℕ) (ps : List (Part L)) → Many P j l ps → cut i ps ≡ []
+  fresh-many : (i j : ℕ) (P : ℕ → List ℕ → List (Part L) → Type 0) → ((k : ℕ) (t : List ℕ) (ps : List (Part L)) → i ≤ k → P k t ps → parts-before i ps ≡ [])
+      → i ≤ j → (l : List ℕ) (ps : List (Part L)) → Many P j l ps → parts-before i ps ≡ []
   fresh-many i j P f h l ps none = refl
   fresh-many i j P f h l ps (more b t u qs rs m n) =
       cut-append i qs rs
-      ∙ ap (λ (k : List (Part L)). k ++ cut i rs) (f j (b ∷ t) qs h m)
+      ∙ ap (λ (k : List (Part L)). k ++ parts-before i rs) (f j (b ∷ t) qs h m)
       ∙ fresh-many i (past (suc j) t) P f (omega (arith, past-le (suc j) t)) u rs n
 
-  fresh-nest : (o c : Class) (l m : L) (i : ℕ) (P : ℕ → List ℕ → List (Part L) → Type 0) → ((k : ℕ) (t : List ℕ) (ps : List (Part L)) → i ≤ k → P k t ps → cut i ps ≡ [])
-      → (n j : ℕ) → i ≤ j → (s : List ℕ) (ps : List (Part L)) → Nest o c l m P n j s ps → cut i ps ≡ []
+  fresh-nest : (o c : Class) (l m : L) (i : ℕ) (P : ℕ → List ℕ → List (Part L) → Type 0) → ((k : ℕ) (t : List ℕ) (ps : List (Part L)) → i ≤ k → P k t ps → parts-before i ps ≡ [])
+      → (n j : ℕ) → i ≤ j → (s : List ℕ) (ps : List (Part L)) → Nest o c l m P n j s ps → parts-before i ps ≡ []
   fresh-nest o c l m i P f n j h s ps out = refl
   fresh-nest o c l m i P f n j h s ps (item {n = w} b t u qs rs p k) =
       cut-append i qs rs
-      ∙ ap (λ (x : List (Part L)). x ++ cut i rs) (f j (b ∷ t) qs h p)
+      ∙ ap (λ (x : List (Part L)). x ++ parts-before i rs) (f j (b ∷ t) qs h p)
       ∙ fresh-nest o c l m i P f (suc w) (past (suc j) t) (omega (arith, past-le (suc j) t)) u rs k
   fresh-nest o c l m i P f n j h s ps (opens {n = w} b u qs p k) = rw (le-ltb j i h) (fresh-nest o c l m i P f (suc (suc w)) (suc j) (omega arith) u qs k)
   fresh-nest o c l m i P f n j h s ps (closes {n = w} b u qs p k) = rw (le-ltb j i h) (fresh-nest o c l m i P f w (suc j) (omega arith) u qs k)
 
-  pub fresh-cut : (g : Grammar L) (i j : ℕ) (t : List ℕ) (ps : List (Part L)) → T (fresh? g) → i ≤ j → Parses g j t ps → cut i ps ≡ []
+  pub fresh-cut : (g : Grammar L) (i j : ℕ) (t : List ℕ) (ps : List (Part L)) → T (fresh? g) → i ≤ j → Parses g j t ps → parts-before i ps ≡ []
   fresh-cut void i j t ps f h m = absurd m
-  fresh-cut empty i j t ps f h m = ap (cut i) (m .1)
-  fresh-cut (byte c) i j t ps f h m = ap (cut i) (m .3)
+  fresh-cut empty i j t ps f h m = ap (parts-before i) (m .1)
+  fresh-cut (byte c) i j t ps f h m = ap (parts-before i) (m .3)
   fresh-cut (g ⨾ k) i j t ps f h m =
-      ap (cut i) (m .5) ∙ cut-append i (m .2) (m .3)
-      ∙ ap (λ (l : List (Part L)). l ++ cut i (m .3)) (fresh-cut g i j (m .0) (m .2) (T-left (fresh? g) (fresh? k) f) h (m .6))
+      ap (parts-before i) (m .5) ∙ cut-append i (m .2) (m .3)
+      ∙ ap (λ (l : List (Part L)). l ++ parts-before i (m .3)) (fresh-cut g i j (m .0) (m .2) (T-left (fresh? g) (fresh? k) f) h (m .6))
       ∙ fresh-cut k i (past j (m .0)) (m .1) (m .3) (T-right (fresh? g) (fresh? k) f) (omega (arith, past-le j (m .0))) (m .7)
   fresh-cut (g ∣ k) i j t ps f h (inl m) = fresh-cut g i j t ps (T-left (fresh? g) (fresh? k) f) h m
   fresh-cut (g ∣ k) i j t ps f h (inr m) = fresh-cut k i j t ps (T-right (fresh? g) (fresh? k) f) h m
@@ -65,8 +65,8 @@ module _ {L : Type 0} where
   fresh-cut (part l g) i j t ps f h m = rw (m .1, le-ltb j i h) (fresh-cut g i j t (m .0) f h (m .2))
   fresh-cut (rest c g) i j t ps f h m = absurd f
   fresh-cut (nest o c l m g r n) i j t ps f h k =
-      ap (cut i) (k .5) ∙ cut-append i (k .2) (k .3)
-      ∙ ap (λ (x : List (Part L)). x ++ cut i (k .3)) (fresh-cut r i j (k .0) (k .2) (T-right (fresh? g) (fresh? r) f) h (k .6))
+      ap (parts-before i) (k .5) ∙ cut-append i (k .2) (k .3)
+      ∙ ap (λ (x : List (Part L)). x ++ parts-before i (k .3)) (fresh-cut r i j (k .0) (k .2) (T-right (fresh? g) (fresh? r) f) h (k .6))
       ∙ fresh-nest o c l m i (Parses g) (λ w u qs y z. fresh-cut g i w u qs (T-left (fresh? g) (fresh? r) f) y z) (suc n) (past j (k .0)) (omega (arith, past-le j (k .0))) (k .1) (k .3) (k .7)
 
   fresh-held : (g : Grammar L) → T (fresh? g) → held g ≡ []
@@ -379,7 +379,7 @@ module _ {L : Type 0} where
             (begun-inside (suc i) o c l m g n (deriv g i b) (w .0, begun-deriv g i b (fresh-begun g i (w .0))))),
       )))
 
-  pub begun-after : (g : Grammar L) (i : ℕ) (p : List ℕ) → Begun i g → Begun (past i p) (after g i p)
+  pub begun-after : (g : Grammar L) (i : ℕ) (p : List ℕ) → Begun i g → Begun (past i p) (residual g i p)
   begun-after g i [] w = w
   begun-after g i (b ∷ p) w = begun-after (deriv g i b) (suc i) p (begun-deriv g i b w)
 
@@ -400,22 +400,22 @@ module _ {L : Type 0} where
   here h i [] u ps e m = m
   here h i (b ∷ t) u ps e m = absurd (cons≢nil e)
 
-  cut-one : (i : ℕ) (c : Part L) (t : List ℕ) (qs l : List (Part L)) → c .start < i → take (i - c .start) (c .text ++ t) ≡ c .text → cut i qs ≡ l → cut i (grown c t ∷ qs) ≡ c ∷ l
+  cut-one : (i : ℕ) (c : Part L) (t : List ℕ) (qs l : List (Part L)) → c .start < i → take (i - c .start) (c .text ++ t) ≡ c .text → parts-before i qs ≡ l → parts-before i (grown c t ∷ qs) ≡ c ∷ l
   cut-one i c t qs l s e f =
       rw (lt-ltb (c .start) i s)
-      (ap (λ (x : List ℕ). record { label = c .label; start = c .start; text = x } ∷ cut i qs) e ∙ ap (λ (k : List (Part L)). c ∷ k) f)
+      (ap (λ (x : List ℕ). record { label = c .label; start = c .start; text = x } ∷ parts-before i qs) e ∙ ap (λ (k : List (Part L)). c ∷ k) f)
 
-  pub held-cut : (g : Grammar L) (i : ℕ) (t : List ℕ) (ps : List (Part L)) → Begun i g → T (clear? g) → Parses g i t ps → cut i ps ≡ held g
+  pub held-cut : (g : Grammar L) (i : ℕ) (t : List ℕ) (ps : List (Part L)) → Begun i g → T (clear? g) → Parses g i t ps → parts-before i ps ≡ held g
   held-cut void i t ps w f m = absurd m
-  held-cut empty i t ps w f m = ap (cut i) (m .1)
-  held-cut (byte c) i t ps w f m = ap (cut i) (m .3)
+  held-cut empty i t ps w f m = ap (parts-before i) (m .1)
+  held-cut (byte c) i t ps w f m = ap (parts-before i) (m .3)
   held-cut (g ⨾ h) i t ps (inl w) f m =
-      ap (cut i) (m .5) ∙ cut-append i (m .2) (m .3)
-      ∙ ap (λ (l : List (Part L)). l ++ cut i (m .3)) (held-cut g i (m .0) (m .2) (w .0) (T-left (clear? g) (clear? h) f) (m .6))
+      ap (parts-before i) (m .5) ∙ cut-append i (m .2) (m .3)
+      ∙ ap (λ (l : List (Part L)). l ++ parts-before i (m .3)) (held-cut g i (m .0) (m .2) (w .0) (T-left (clear? g) (clear? h) f) (m .6))
       ∙ ap (λ (l : List (Part L)). held g ++ l) (fresh-cut h i (past i (m .0)) (m .1) (m .3) (w .1) (past-le i (m .0)) (m .7) ∙ sym (fresh-held h (w .1)))
   held-cut (g ⨾ h) i t ps (inr w) f m =
-      ap (cut i) (m .5) ∙ cut-append i (m .2) (m .3)
-      ∙ ap (λ (l : List (Part L)). l ++ cut i (m .3)) (held-cut g i (m .0) (m .2) (w .1) (T-left (clear? g) (clear? h) f) (m .6))
+      ap (parts-before i) (m .5) ∙ cut-append i (m .2) (m .3)
+      ∙ ap (λ (l : List (Part L)). l ++ parts-before i (m .3)) (held-cut g i (m .0) (m .2) (w .1) (T-left (clear? g) (clear? h) f) (m .6))
       ∙ ap (λ (l : List (Part L)). held g ++ l)
       (held-cut h i (m .1) (m .3) (w .2) (T-right (clear? g) (clear? h) f) (here h i (m .0) (m .1) (m .3) (still-nil g i (m .0) (m .2) (w .0) (m .6)) (m .7)))
   held-cut (g ∣ h) i t ps w f m =
@@ -423,10 +423,10 @@ module _ {L : Type 0} where
   held-cut (star g) i t ps w f m = fresh-cut (star g) i i t ps f (omega arith) m
   held-cut (part l g) i t ps w f m = fresh-cut (part l g) i i t ps f (omega arith) m
   held-cut (rest c g) i t ps w f m =
-      ap (cut i) (m .1) ∙ cut-one i c t (m .0) (held g) (w .1) (take-more c g i t (m .0) (w .1) (w .2) (m .2)) (held-cut g i t (m .0) (w .0) f (m .2))
+      ap (parts-before i) (m .1) ∙ cut-one i c t (m .0) (held g) (w .1) (take-more c g i t (m .0) (w .1) (w .2) (m .2)) (held-cut g i t (m .0) (w .0) f (m .2))
   held-cut (nest o c l m g r n) i t ps w f k =
-      ap (cut i) (k .5) ∙ cut-append i (k .2) (k .3)
-      ∙ ap (λ (x : List (Part L)). x ++ cut i (k .3)) (held-cut r i (k .0) (k .2) (w .1) (T-right (fresh? g) (clear? r) f) (k .6))
+      ap (parts-before i) (k .5) ∙ cut-append i (k .2) (k .3)
+      ∙ ap (λ (x : List (Part L)). x ++ parts-before i (k .3)) (held-cut r i (k .0) (k .2) (w .1) (T-right (fresh? g) (clear? r) f) (k .6))
       ∙ ap (λ (x : List (Part L)). held r ++ x)
       (fresh-nest o c l m i (Parses g) (λ v u qs y z. fresh-cut g i v u qs (w .0) y z) (suc n) (past i (k .0)) (past-le i (k .0)) (k .1) (k .3) (k .7))
       ∙ append-nil (held r)

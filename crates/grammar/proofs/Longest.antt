@@ -10,7 +10,7 @@ use lib.Dec.{T, ltb}
 use lib.ListN.{length, take}
 use Rattle.grammar.specs.Grammar.{Class, Part, Grammar, void, empty, byte, _⨾_, _∣_, star, part, rest, nest, Nest, out, closes, Parses, none, past, grown, bytes?, T-left, T-right}
 use Rattle.grammar.specs.Beginnings.{Matches, Live, Longest}
-use Rattle.grammar.specs.Derivative.{live, nullable, deriv, ends, after}
+use Rattle.grammar.specs.helpers.Derivative.{live, nullable, deriv, ends, residual}
 use Rattle.grammar.proofs.Derivative.{T-both, T-or, T-case, seq-nil, no-nest, split-nil, after-means}
 
 bytes-append : (t u : List ℕ) → T (bytes? t) → T (bytes? u) → T (bytes? (t ++ u))
@@ -27,7 +27,7 @@ past-snoc i [] b = refl
 past-snoc i (a ∷ s) b = past-snoc (suc i) s b
 
 module _ {L : Type 0} where
-  pub after-snoc : (g : Grammar L) (i : ℕ) (s : List ℕ) (b : ℕ) → after g i (s ++ b ∷ []) ≡ deriv (after g i s) (past i s) b
+  pub after-snoc : (g : Grammar L) (i : ℕ) (s : List ℕ) (b : ℕ) → residual g i (s ++ b ∷ []) ≡ deriv (residual g i s) (past i s) b
   after-snoc g i [] b = refl
   after-snoc g i (a ∷ s) b = after-snoc (deriv g i a) (suc i) s b
 
@@ -112,13 +112,13 @@ module _ {L : Type 0} where
       (grown c [] ∷ x .0, (x .0, refl, x .1))
   of-nullable (nest o c l m g r n) i p = absurd p
 
-  pub live-computed : (g : Grammar L) (p : List ℕ) → Live g p ↔ T (live (after g 0 p))
+  pub live-computed : (g : Grammar L) (p : List ℕ) → Live g p ↔ T (live (residual g 0 p))
   live-computed g p = (
-    λ v. live-of (after g 0 p) (past 0 p) (v .0) (v .2 .0) (after-means g 0 p (v .0) (v .2 .0) .0 (v .2 .1)),
-    λ l. let x = text-of (after g 0 p) (past 0 p) l in (x .0, x .2, (x .1, after-means g 0 p (x .0) (x .1) .1 (x .3))),
+    λ v. live-of (residual g 0 p) (past 0 p) (v .0) (v .2 .0) (after-means g 0 p (v .0) (v .2 .0) .0 (v .2 .1)),
+    λ l. let x = text-of (residual g 0 p) (past 0 p) l in (x .0, x .2, (x .1, after-means g 0 p (x .0) (x .1) .1 (x .3))),
   )
 
   -- each beginning of a live beginning is live
-  pub live-front : (g : Grammar L) (p q : List ℕ) → Live g (p ++ q) → T (live (after g 0 p))
+  pub live-front : (g : Grammar L) (p q : List ℕ) → Live g (p ++ q) → T (live (residual g 0 p))
   live-front g p q v =
-      live-of (after g 0 p) (past 0 p) (q ++ v .0) (v .2 .0) (after-means g 0 p (q ++ v .0) (v .2 .0) .0 (rw append-assoc at (v .2 .1)))
+      live-of (residual g 0 p) (past 0 p) (q ++ v .0) (v .2 .0) (after-means g 0 p (q ++ v .0) (v .2 .0) .0 (rw append-assoc at (v .2 .1)))

@@ -9,9 +9,9 @@ use mathlib.Core.Option.{none, some}
 use lib.ListN.{length, getD, drop, drop-of-length-le}
 use lib.Seq.{drop-cons}
 use Rattle.grammar.specs.Grammar.{Part, Grammar}
-use Rattle.grammar.specs.Derivative.{live, deriv}
+use Rattle.grammar.specs.helpers.Derivative.{live, deriv}
 use Rattle.grammar.specs.Reading.{value-limit, Limit, limit-number, Rules, Verdict, refused}
-use Rattle.grammar.specs.Judge.{held, turn, judge, header}
+use Rattle.grammar.specs.helpers.Judge.{held, turn, judge, header}
 
 module _ {L A : Type 0} (r : Rules L A) (s : List ℕ) where
   pub header-long : value-limit < length s → header r s ≡ refused 13 value-limit

@@ -7,11 +7,11 @@ use mathlib.Core.List.{List, [], _∷_, _++_, append-nil}
 use mathlib.Core.Option.{none, some}
 use lib.ListN.{length, getD}
 use Rattle.grammar.specs.Grammar.{Class, Part, Grammar, void, empty, byte, _⨾_, rest, nest}
-use Rattle.grammar.specs.Derivative.{live, nullable, deriv, ends, then, seq, alt, inside, closed}
+use Rattle.grammar.specs.helpers.Derivative.{live, nullable, deriv, ends, then, seq, alt, inside, closed}
 use Rattle.grammar.specs.Reading.{Limit, limit-number, Rules, refused}
-use Rattle.grammar.specs.Judge.{held}
-use Rattle.grammar.specs.Checks.{ahead}
-use Rattle.grammar.specs.Scans.{from}
+use Rattle.grammar.specs.helpers.Judge.{held}
+use Rattle.grammar.specs.helpers.Checks.{ahead}
+use Rattle.grammar.specs.helpers.Scans.{from}
 use Rattle.grammar.proofs.Ahead.{ahead-one}
 use Rattle.grammar.proofs.Shapes.{alt-void}
 use Rattle.grammar.proofs.Scans.{then-live, then-held, goes-on, breaks-off, stops-at, ends-early, Follows, nothing, blank, solid, follows, dead-live}

@@ -7,8 +7,8 @@ use mathlib.Core.Bool.{Bool, true, false, cond}
 use mathlib.Core.List.{List, [], _∷_}
 use lib.Dec.{T}
 use Rattle.grammar.specs.Grammar.{Class, Part, Grammar, void, empty, byte, _⨾_, _∣_, star, part, rest, nest, past, grown}
-use Rattle.grammar.specs.Derivative.{then, seq, alt, or-else, during, inside, closed, ends, deriv, after}
-use Rattle.grammar.specs.Checks.{fresh?, clear?}
+use Rattle.grammar.specs.helpers.Derivative.{then, seq, alt, or-else, during, inside, closed, ends, deriv, residual}
+use Rattle.grammar.specs.helpers.Checks.{fresh?, clear?}
 use Rattle.grammar.proofs.Derivative.{T-both}
 use Rattle.grammar.proofs.Shapes.{alt-void, seq-void}
 use Rattle.grammar.proofs.Exact.{Steady}
@@ -491,11 +491,11 @@ module _ {L : Type 0} where
       turn : Grammar L
       turn = alt (up i b o c l m g n) (alt (down i b o c l m g n) (items i b o c l m g n))
 
-  pub det-after : (g : Grammar L) (i : ℕ) (p : List ℕ) → Det g → Det (after g i p)
+  pub det-after : (g : Grammar L) (i : ℕ) (p : List ℕ) → Det g → Det (residual g i p)
   det-after g i [] d = d
   det-after g i (b ∷ p) d = det-after (deriv g i b) (suc i) p (onward g i b d .0)
 
   pub det-steady : (g : Grammar L) → Det g → Steady g
   det-steady g d p =
       let e = det-after g 0 p d in
-      (det-clear (after g 0 p) e, det-clear (ends (after g 0 p) (past 0 p)) (det-ends (after g 0 p) (past 0 p) e))
+      (det-clear (residual g 0 p) e, det-clear (ends (residual g 0 p) (past 0 p)) (det-ends (residual g 0 p) (past 0 p) e))

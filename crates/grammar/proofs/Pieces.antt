@@ -7,12 +7,12 @@ use lib.Dec.{T}
 use lib.ListN.{length, take, drop, length-append, length-drop}
 use lib.Seq.{take-at, drop-at, length-take-le}
 use Rattle.grammar.specs.Grammar.{Part, Grammar, Parses}
-use Rattle.grammar.specs.Derivative.{live}
+use Rattle.grammar.specs.helpers.Derivative.{live}
 use Rattle.grammar.specs.Reading.{Rules, Verdict, value, refused, Answers, too-long, malformed, breaks, faulty, reads}
-use Rattle.grammar.specs.Judge.{header}
-use Rattle.grammar.specs.Checks.{fresh?}
-use Rattle.grammar.specs.Scans.{slice}
-use Rattle.grammar.specs.Slices.{Slice, Slices}
+use Rattle.grammar.specs.helpers.Judge.{header}
+use Rattle.grammar.specs.helpers.Checks.{fresh?}
+use Rattle.grammar.specs.helpers.Scans.{slice}
+use Rattle.grammar.specs.helpers.Slices.{Slice, Slices}
 use Rattle.grammar.proofs.Deterministic.{deterministic?}
 use Rattle.grammar.proofs.Longest.{past-length}
 use Rattle.grammar.proofs.Slices.{slices}

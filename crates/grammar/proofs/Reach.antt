@@ -10,12 +10,12 @@ use lib.ListN.{length, take, length-append}
 use lib.Seq.{take-at, take-append-add}
 use Rattle.grammar.specs.Grammar.{Grammar, past}
 use Rattle.grammar.specs.Beginnings.{Live, Longest}
-use Rattle.grammar.specs.Derivative.{live, deriv, after, reach}
+use Rattle.grammar.specs.helpers.Derivative.{live, deriv, residual, reach}
 use Rattle.grammar.proofs.Longest.{after-snoc, past-snoc, live-computed, live-front}
 
 module _ {L : Type 0} (g : Grammar L) (s : List ℕ) where
   -- p is live, and no beginning that is longer
-  stays : (p t : List ℕ) → s ≡ p ++ t → T (live (after g 0 p)) → ((m : ℕ) → length p < m → m ≤ length s → Live g (take m s) → ⊥)
+  stays : (p t : List ℕ) → s ≡ p ++ t → T (live (residual g 0 p)) → ((m : ℕ) → length p < m → m ≤ length s → Live g (take m s) → ⊥)
       → Longest g s (length p)
   stays p t e l f = record {
     within = omega (arith, ap length e, length-append p t);
@@ -28,7 +28,7 @@ module _ {L : Type 0} (g : Grammar L) (s : List ℕ) where
       go m h v false d = ltb-false (length p) m d
 
   -- a byte that leaves nothing
-  no-longer : (p : List ℕ) (b : ℕ) (t : List ℕ) → s ≡ p ++ (b ∷ t) → live (after g 0 (p ++ b ∷ [])) ≡ false → (m : ℕ) → length p < m → m ≤ length s
+  no-longer : (p : List ℕ) (b : ℕ) (t : List ℕ) → s ≡ p ++ (b ∷ t) → live (residual g 0 (p ++ b ∷ [])) ≡ false → (m : ℕ) → length p < m → m ≤ length s
       → Live g (take m s) → ⊥
   no-longer p b t e d m h k v = rw d at (live-front g on (take (m - suc (length p)) t) (rw beyond at v))
     where
@@ -44,20 +44,20 @@ module _ {L : Type 0} (g : Grammar L) (s : List ℕ) where
           ap (take m) (e ∙ sym (append-assoc p (b ∷ []) t)) ∙ ap (λ (n : ℕ). take n ((p ++ (b ∷ [])) ++ t)) f
           ∙ take-append-add (p ++ (b ∷ [])) t (m - suc (length p))
 
-  walk : (p t : List ℕ) → s ≡ p ++ t → T (live (after g 0 p)) → Longest g s (length p + reach (after g 0 p) (past 0 p) t)
+  walk : (p t : List ℕ) → s ≡ p ++ t → T (live (residual g 0 p)) → Longest g s (length p + reach (residual g 0 p) (past 0 p) t)
   walk p [] e l =
       let z : length p ≡ length p + 0 = omega arith in
       subst (Longest g s) z (stays p [] e l (λ m h k v. omega (arith, ap length e, length-append p [])))
-  walk p (b ∷ t) e l = go (live (deriv (after g 0 p) (past 0 p) b)) refl (walk (p ++ b ∷ []) t (e ∙ sym (append-assoc p (b ∷ []) t)))
+  walk p (b ∷ t) e l = go (live (deriv (residual g 0 p) (past 0 p) b)) refl (walk (p ++ b ∷ []) t (e ∙ sym (append-assoc p (b ∷ []) t)))
     where
-      go : (x : Bool) → live (deriv (after g 0 p) (past 0 p) b) ≡ x
-          → (T (live (after g 0 (p ++ b ∷ []))) → Longest g s (length (p ++ b ∷ []) + reach (after g 0 (p ++ b ∷ [])) (past 0 (p ++ b ∷ [])) t))
-          → Longest g s (length p + cond x (suc (reach (deriv (after g 0 p) (past 0 p) b) (suc (past 0 p)) t)) zero)
+      go : (x : Bool) → live (deriv (residual g 0 p) (past 0 p) b) ≡ x
+          → (T (live (residual g 0 (p ++ b ∷ []))) → Longest g s (length (p ++ b ∷ []) + reach (residual g 0 (p ++ b ∷ [])) (past 0 (p ++ b ∷ [])) t))
+          → Longest g s (length p + cond x (suc (reach (deriv (residual g 0 p) (past 0 p) b) (suc (past 0 p)) t)) zero)
       go true d r =
-          let z : length (p ++ b ∷ []) + reach (deriv (after g 0 p) (past 0 p) b) (suc (past 0 p)) t
-          ≡ length p + suc (reach (deriv (after g 0 p) (past 0 p) b) (suc (past 0 p)) t) = omega (arith, length-append p (b ∷ [])) in
+          let z : length (p ++ b ∷ []) + reach (deriv (residual g 0 p) (past 0 p) b) (suc (past 0 p)) t
+          ≡ length p + suc (reach (deriv (residual g 0 p) (past 0 p) b) (suc (past 0 p)) t) = omega (arith, length-append p (b ∷ [])) in
           subst (Longest g s) z
-          (subst (λ (n : ℕ). Longest g s (length (p ++ b ∷ []) + reach (deriv (after g 0 p) (past 0 p) b) n t)) (past-snoc 0 p b)
+          (subst (λ (n : ℕ). Longest g s (length (p ++ b ∷ []) + reach (deriv (residual g 0 p) (past 0 p) b) n t)) (past-snoc 0 p b)
           (subst (λ (h : Grammar L). Longest g s (length (p ++ b ∷ []) + reach h (past 0 (p ++ b ∷ [])) t)) (after-snoc g 0 p b) (r (rw (after-snoc g 0 p b, d) tt))))
       go false d r =
           let z : length p ≡ length p + 0 = omega arith in

@@ -4,7 +4,7 @@ use mathlib.Core.Path.{refl, sym, ap, subst, _∙_}
 use mathlib.Core.List.{List, [], _∷_, _++_, append-assoc}
 use lib.Dec.{T}
 use Rattle.grammar.specs.Grammar.{Part, Grammar, _⨾_, star, Parses, more, past}
-use Rattle.grammar.specs.Derivative.{nullable}
+use Rattle.grammar.specs.helpers.Derivative.{nullable}
 use Rattle.grammar.proofs.Derivative.{past-append}
 use Rattle.grammar.proofs.Longest.{nullable-of}
 

@@ -9,11 +9,11 @@ use lib.Dec.{ltb}
 use lib.ListN.{length, getD}
 use borrow.Author.Tests.{ltb-true, ltb-false}
 use Rattle.grammar.specs.Grammar.{Class, Part, Grammar, void, empty, byte, _⨾_, part, rest, up-to, grown}
-use Rattle.grammar.specs.Derivative.{live, nullable, deriv, ends, then, seq, during}
+use Rattle.grammar.specs.helpers.Derivative.{live, nullable, deriv, ends, then, seq, during}
 use Rattle.grammar.specs.Reading.{Rules, refused}
-use Rattle.grammar.specs.Judge.{held, finished}
-use Rattle.grammar.specs.Checks.{ahead}
-use Rattle.grammar.specs.Scans.{slice, from}
+use Rattle.grammar.specs.helpers.Judge.{held, finished}
+use Rattle.grammar.specs.helpers.Checks.{ahead}
+use Rattle.grammar.specs.helpers.Scans.{slice, from}
 use Rattle.grammar.proofs.Ahead.{ahead-ends, ahead-nullable, ahead-held}
 use Rattle.grammar.proofs.Shapes.{byte-step}
 use Rattle.grammar.proofs.Loop.{judge-end}

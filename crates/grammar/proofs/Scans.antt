@@ -12,11 +12,11 @@ use lib.ListN.{length, getD, drop, take, drop-of-length-le, length-drop}
 use lib.Seq.{drop-cons, take-suc, getD-drop}
 use borrow.Author.Tests.{ltb-true, ltb-false}
 use Rattle.grammar.specs.Grammar.{Class, Part, Grammar, void, empty, byte, _⨾_, _∣_, star, part, rest, nest, plus, grown}
-use Rattle.grammar.specs.Derivative.{live, nullable, deriv, ends, then, seq, alt, during}
+use Rattle.grammar.specs.helpers.Derivative.{live, nullable, deriv, ends, then, seq, alt, during}
 use Rattle.grammar.specs.Reading.{Limit, limit-number, Rules, Verdict, refused}
-use Rattle.grammar.specs.Judge.{held, finished, judge}
-use Rattle.grammar.specs.Checks.{ahead}
-use Rattle.grammar.specs.Scans.{slice, from}
+use Rattle.grammar.specs.helpers.Judge.{held, finished, judge}
+use Rattle.grammar.specs.helpers.Checks.{ahead}
+use Rattle.grammar.specs.helpers.Scans.{slice, from}
 use Rattle.grammar.proofs.Ahead.{ahead-deriv, ahead-ends, ahead-void, ahead-one, ahead-live, ahead-nullable, ahead-held}
 use Rattle.grammar.proofs.Shapes.{alt-void, seq-void, byte-step}
 use Rattle.grammar.proofs.Loop.{judge-end, judge-dead, judge-next, judge-broken}

@@ -5,8 +5,8 @@ use mathlib.Core.Bool.{Bool, true, false, cond}
 use mathlib.Core.List.{List, [], _∷_, _++_}
 use lib.Dec.{T}
 use Rattle.grammar.specs.Grammar.{Class, Part, Grammar, void, empty, byte, _⨾_, _∣_, star, part, rest, nest, plus, opt, past, grown}
-use Rattle.grammar.specs.Derivative.{deriv, ends, after, then, seq, alt, during}
-use Rattle.grammar.specs.Checks.{clear?}
+use Rattle.grammar.specs.helpers.Derivative.{deriv, ends, residual, then, seq, alt, during}
+use Rattle.grammar.specs.helpers.Checks.{clear?}
 
 module _ {L : Type 0} where
   pub alt-void : (g : Grammar L) → alt g void ≡ g
@@ -90,6 +90,6 @@ module _ {L : Type 0} where
   -- A machine: what is left of the grammar in each state, and a step to a state. Where each state is clear, so is the grammar.
   module _ {Q : Type 0} (left : Q → Grammar L) (step : Q → ℕ → ℕ → Q) (law : (q : Q) (i b : ℕ) → left (step q i b) ≡ deriv (left q) i b)
       (good : (q : Q) (i : ℕ) → T (clear? (left q)) × T (clear? (ends (left q) i))) where
-    pub steady-of : (p : List ℕ) (q : Q) (i : ℕ) → T (clear? (after (left q) i p)) × T (clear? (ends (after (left q) i p) (past i p)))
+    pub steady-of : (p : List ℕ) (q : Q) (i : ℕ) → T (clear? (residual (left q) i p)) × T (clear? (ends (residual (left q) i p) (past i p)))
     steady-of [] q i = good q i
     steady-of (b ∷ p) q i = rw (← law q i b) (steady-of p (step q i b) (suc i))

@@ -10,9 +10,9 @@ use lib.Dec.{T, ltb}
 use lib.ListN.{length, take}
 use lib.Seq.{take-append-add, take-at}
 use Rattle.grammar.specs.Grammar.{Class, Part, Grammar, void, empty, byte, _⨾_, _∣_, star, part, rest, nest, Nest, out, item, opens, closes, Parses, Many, none, more, past, T-left, T-right}
-use Rattle.grammar.specs.Reading.{Rules, cut, SoFar}
-use Rattle.grammar.specs.Checks.{fresh?}
-use Rattle.grammar.specs.Slices.{Slice, Slices}
+use Rattle.grammar.specs.Reading.{Rules, parts-before, SoFar}
+use Rattle.grammar.specs.helpers.Checks.{fresh?}
+use Rattle.grammar.specs.helpers.Slices.{Slice, Slices}
 use Rattle.grammar.proofs.Derivative.{past-append}
 use Rattle.grammar.proofs.Longest.{past-length}
 
@@ -96,12 +96,12 @@ module _ {L : Type 0} where
         v .3,
       )
 
-  cut-slices : (p t : List ℕ) (ps : List (Part L)) → Slices 0 (p ++ t) ps → Slices 0 p (cut (length p) ps)
+  cut-slices : (p t : List ℕ) (ps : List (Part L)) → Slices 0 (p ++ t) ps → Slices 0 p (parts-before (length p) ps)
   cut-slices p t [] v = tt
   cut-slices p t (c ∷ ps) v = go (ltb (c .start) (length p)) refl (cut-slices p t ps (v .1))
     where
-      go : (x : Bool) → ltb (c .start) (length p) ≡ x → Slices 0 p (cut (length p) ps)
-          → Slices 0 p (cond x (record { label = c .label; start = c .start; text = take (length p - c .start) (c .text) } ∷ cut (length p) ps) (cut (length p) ps))
+      go : (x : Bool) → ltb (c .start) (length p) ≡ x → Slices 0 p (parts-before (length p) ps)
+          → Slices 0 p (cond x (record { label = c .label; start = c .start; text = take (length p - c .start) (c .text) } ∷ parts-before (length p) ps) (parts-before (length p) ps))
       go true e r = (begun-slice p t c (ltb-true (c .start) (length p) e) (v .0), r)
       go false e r = r
 

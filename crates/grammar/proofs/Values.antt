@@ -5,9 +5,9 @@ use mathlib.Core.List.{List}
 use lib.Dec.{T}
 use Rattle.grammar.specs.Grammar.{Part, Parses}
 use Rattle.grammar.specs.Reading.{Rules, Verdict, value, refused, Answers, too-long, malformed, breaks, faulty, reads}
-use Rattle.grammar.specs.Derivative.{live}
-use Rattle.grammar.specs.Judge.{header}
-use Rattle.grammar.specs.Checks.{fresh?}
+use Rattle.grammar.specs.helpers.Derivative.{live}
+use Rattle.grammar.specs.helpers.Judge.{header}
+use Rattle.grammar.specs.helpers.Checks.{fresh?}
 use Rattle.grammar.proofs.Deterministic.{deterministic?}
 use Rattle.grammar.proofs.Demands.{answered-exactly}
 

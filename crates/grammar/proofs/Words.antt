@@ -11,14 +11,14 @@ use lib.Dec.{T, ltb, eqb}
 use lib.ListN.{length, getD, drop, drop-of-length-le}
 use lib.Seq.{drop-cons}
 use Rattle.grammar.specs.Grammar.{Class, Part, Grammar, void, empty, byte, _⨾_, _∣_, star, part, rest, nest, just, lit, bytes?, T-left, T-right}
-use Rattle.grammar.specs.Derivative.{live, nullable, deriv, ends, then, seq, alt, or-else}
+use Rattle.grammar.specs.helpers.Derivative.{live, nullable, deriv, ends, then, seq, alt, or-else}
 use Rattle.grammar.specs.Reading.{Rules, refused}
-use Rattle.grammar.specs.Judge.{held}
-use Rattle.grammar.specs.Checks.{ahead}
-use Rattle.grammar.specs.Scans.{from}
+use Rattle.grammar.specs.helpers.Judge.{held}
+use Rattle.grammar.specs.helpers.Checks.{ahead}
+use Rattle.grammar.specs.helpers.Scans.{from}
 use Rattle.grammar.proofs.Shapes.{alt-void, byte-step}
 use Rattle.grammar.proofs.Scans.{Follows, nothing, blank, solid, follows, dead-live, then-live, goes-on, stops-at, ends-early}
-use Rattle.grammar.specs.Words.{begins, common, larger}
+use Rattle.grammar.specs.helpers.Words.{begins, common, larger}
 
 and-true : (a b : Bool) → b ≡ true → (a && b) ≡ a
 and-true true b e = e

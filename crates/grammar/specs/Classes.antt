@@ -22,8 +22,8 @@ span-some x y p = go (leb x x) (le→leb x x (omega arith))
     go false q = q
 
 -- the bytes from x to y
-abbrev pub span : (x y : ℕ) → T (leb x y && ltb y 256) → Class
-span x y p = record { has = λ b. leb x b && leb b y; below = span-below x y p; some = x; holds = span-some x y p }
+abbrev pub range : (x y : ℕ) → T (leb x y && ltb y 256) → Class
+range x y p = record { has = λ b. leb x b && leb b y; below = span-below x y p; some = x; holds = span-some x y p }
 
 pub or-below : (c d : Class) (b : ℕ) → T (c .has b || d .has b) → T (ltb b 256)
 or-below c d b h = go (c .has b) (d .has b) h (c .below b) (d .below b)

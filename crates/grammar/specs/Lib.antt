@@ -1,12 +1,8 @@
 pub mod Grammar
 pub mod Classes
 pub mod Beginnings
+pub mod Refusals
 pub mod Reading
-pub mod Derivative
-pub mod Judge
-pub mod Checks
-pub mod Slices
 pub mod Comparing
-pub mod Scans
 pub mod Text
-pub mod Words
+pub mod helpers

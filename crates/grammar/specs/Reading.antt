@@ -41,14 +41,14 @@ pub record Rules (L A : Type 0) : Type 0 where
   pub value : (ps : List (Part L)) → A
 
 -- The parts that have begun before the place n, as far as they stand before it.
-abbrev pub cut : {L : Type 0} → ℕ → List (Part L) → List (Part L)
-cut n [] = []
-cut n (c ∷ ps) = cond (ltb (c .start) n) (record { label = c .label; start = c .start; text = take (n - c .start) (c .text) } ∷ cut n ps) (cut n ps)
+abbrev pub parts-before : {L : Type 0} → ℕ → List (Part L) → List (Part L)
+parts-before n [] = []
+parts-before n (c ∷ ps) = cond (ltb (c .start) n) (record { label = c .label; start = c .start; text = take (n - c .start) (c .text) } ∷ parts-before n ps) (parts-before n ps)
 
 module _ {L A : Type 0} (r : Rules L A) where
   -- some continuation makes the beginning p well-formed, and ps are the parts as far as p holds them
   abbrev pub SoFar : List ℕ → List (Part L) → Type 0
-  SoFar p ps = (t : List ℕ) × (qs : List (Part L)) × T (bytes? t) × Parses (r .grammar) 0 (p ++ t) qs × (ps ≡ cut (length p) qs)
+  SoFar p ps = (t : List ℕ) × (qs : List (Part L)) × T (bytes? t) × Parses (r .grammar) 0 (p ++ t) qs × (ps ≡ parts-before (length p) qs)
 
   -- the byte at the place k leaves a continuation and breaks the limit l
   abbrev pub Breaks : List ℕ → Limit → ℕ → Type 0

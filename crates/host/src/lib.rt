@@ -2,28 +2,28 @@
 ghost use mathlib.Core.Path.{_≡_};
 ghost use mathlib.Core.List.{map};
 ghost use lib.ListN.{length};
-ghost use Rattle.grammar.specs.Judge.{header};
+ghost use Rattle.grammar.specs.helpers.Judge.{header};
 ghost use Rattle.grammar.specs.Comparing.{compare as comparing, outcome, refused-at};
 ghost use Rattle.version.specs.Grammar.{rules as versions};
 ghost use Rattle.version.specs.Reading.{precedence};
-ghost use Rattle.version.specs.Writing.{version-writing, written-output};
+ghost use Rattle.version.specs.Writing.{version-writing, version-output};
 ghost use Rattle.delta.specs.Grammar.{rules as deltas};
 ghost use Rattle.qvalue.specs.Grammar.{rules as qvalues};
-ghost use Rattle.qvalue.specs.Writing.{written-qvalue, qvalue-output};
+ghost use Rattle.qvalue.specs.Writing.{qvalue-writing, qvalue-output};
 ghost use Rattle.language.specs.Grammar.{rules as languages};
 ghost use Rattle.language.specs.Reading.{equality};
 ghost use Rattle.etag.specs.Grammar.{rules as etags};
 ghost use Rattle.etag.specs.Reading.{strong-matching, weak-matching};
 ghost use Rattle.date.specs.Grammar.{rules as dates};
-ghost use Rattle.date.specs.Writing.{date-writing, written-output as date-output};
+ghost use Rattle.date.specs.Writing.{date-writing, date-output};
 ghost use Rattle.media.specs.Grammar.{rules as media-types};
 ghost use Rattle.media.specs.Charset.{charsets};
 ghost use Rattle.media.specs.Reading.{equality as media-equality, charset-verdict};
 ghost use Rattle.url.specs.Grammar.{rules as urls};
 ghost use Rattle.url.specs.Meaning.{same-page, pages};
 ghost use Rattle.products.specs.Grammar.{rules as product-lists};
-ghost use Rattle.framing.specs.Reading.{decode as decoding, after as decoded-output};
-ghost use Rattle.chunk_writer.specs.Writing.{answered as encoding, after as encoded-output};
+ghost use Rattle.framing.specs.Reading.{decode as decoding, decode-output};
+ghost use Rattle.chunk_writer.specs.Writing.{frame-writing as encoding, frame-output as encoded-output};
 ghost use Rattle.octets.specs.Comparing.{comparison};
 ghost use Rattle.octets.specs.Writing.{written};
 ghost use Rattle.chunked.specs.Verdict.{verdict};
@@ -269,7 +269,7 @@ pub extern "C" fn qz_version_compare(a: &[u8], b: &[u8]) -> QzOrder
 #[no_mangle]
 pub extern "C" fn qz_version_write(major: u32, minor: u32, out: &mut [u8]) -> QzWritten
     ensures answers { λ r. ⌜ r ≡ written-fields (version-writing (record { major = major; minor = minor }) (length (now (out .entry)))) ⌝ }
-    ensures writes { λ _. ⌜ now (out .exit) ≡ written-output (record { major = major; minor = minor }) (now (out .entry)) ⌝ }
+    ensures writes { λ _. ⌜ now (out .exit) ≡ version-output (record { major = major; minor = minor }) (now (out .entry)) ⌝ }
 {
     let v = Version { major, minor };
     written_fields(v.write(out))
@@ -313,7 +313,7 @@ pub extern "C" fn qz_qvalue_read(s: &[u8]) -> QzNumber
 
 #[no_mangle]
 pub extern "C" fn qz_qvalue_write(thousandths: u16, out: &mut [u8]) -> QzWritten
-    ensures answers { λ r. ⌜ r ≡ written-fields (written-qvalue thousandths (length (now (out .entry)))) ⌝ }
+    ensures answers { λ r. ⌜ r ≡ written-fields (qvalue-writing thousandths (length (now (out .entry)))) ⌝ }
     ensures writes { λ _. ⌜ now (out .exit) ≡ qvalue-output thousandths (now (out .entry)) ⌝ }
 {
     written_fields(qvalue::write(thousandths, out))
@@ -532,7 +532,7 @@ pub extern "C" fn qz_products_read(s: &[u8]) -> QzProducts
 #[no_mangle]
 pub extern "C" fn qz_chunked_decode(input: &[u8], out: &mut [u8]) -> QzBody
     ensures answers { λ r. ⌜ r ≡ body-fields (decoding (length (now (out .entry))) (now (input .entry))) ⌝ }
-    ensures writes { λ _. ⌜ now (out .exit) ≡ decoded-output (now (input .entry)) (now (out .entry)) ⌝ }
+    ensures writes { λ _. ⌜ now (out .exit) ≡ decode-output (now (input .entry)) (now (out .entry)) ⌝ }
 {
     body_of(chunked::decode(input, out))
 }

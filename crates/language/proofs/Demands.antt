@@ -8,7 +8,7 @@ use lib.Dec.{T}
 use Rattle.grammar.specs.Grammar.{lower}
 use Rattle.grammar.specs.Reading.{Verdict, value, refused, Answers}
 use Rattle.grammar.specs.Comparing.{outcome, refused-at, compare}
-use Rattle.grammar.specs.Judge.{header}
+use Rattle.grammar.specs.helpers.Judge.{header}
 use Rattle.grammar.proofs.Deterministic.{deterministic?}
 use Rattle.grammar.proofs.Demands.{answered-exactly}
 use Rattle.grammar.proofs.Comparing.{compare-read, compare-swap, compare-chain}

@@ -8,21 +8,21 @@ use mathlib.Core.List.{List, [], _∷_, _++_}
 use lib.Dec.{ltb, eqb}
 use lib.ListN.{length, getD, length-append}
 use Rattle.grammar.specs.Grammar.{Part, Grammar, void, byte, _⨾_, part, up-to, just}
-use Rattle.grammar.specs.Derivative.{deriv, then}
+use Rattle.grammar.specs.helpers.Derivative.{deriv, then}
 use Rattle.grammar.specs.Reading.{Verdict, value, refused}
-use Rattle.grammar.specs.Checks.{ahead}
-use Rattle.grammar.specs.Judge.{header}
-use Rattle.grammar.specs.Scans.{slice, from}
+use Rattle.grammar.specs.helpers.Checks.{ahead}
+use Rattle.grammar.specs.helpers.Judge.{header}
+use Rattle.grammar.specs.helpers.Scans.{slice, from}
 use Rattle.grammar.proofs.Loop.{header-short}
 use Rattle.grammar.proofs.Scans.{goes-on, stops-at}
 use Rattle.grammar.proofs.Pieces.{slice-length}
 use Rattle.grammar.proofs.Repeats.{Short, part-one-up-to, part-one-up-to-none, may-end}
 use Rattle.octets.specs.Bytes.{letter?}
 use Rattle.octets.specs.Classes.{LETTER}
-use Rattle.octets.specs.Runs.{run-end}
+use Rattle.octets.specs.helpers.Runs.{run-end}
 use Rattle.octets.proofs.Runs.{run-is}
 use Rattle.language.specs.Grammar.{Name, primary, subtag, letters, subtags, language, primary-length, rules}
-use Rattle.language.specs.Scan.{part-end, Behind}
+use Rattle.language.specs.helpers.Scan.{part-end, Behind}
 
 -- ## The place behind a part
 

@@ -5,7 +5,7 @@ use mathlib.Core.List.{List}
 use Rattle.grammar.specs.Reading as G
 use Rattle.grammar.specs.Reading.{Verdict}
 use Rattle.grammar.specs.Comparing.{Comparison, compare}
-use Rattle.grammar.specs.Judge.{header}
+use Rattle.grammar.specs.helpers.Judge.{header}
 use Rattle.octets.specs.Case.{alike}
 use Rattle.language.specs.declared.Tag.{Tag}
 use Rattle.language.specs.declared.Reading.{Reading}

@@ -1,10 +1,10 @@
 // Language tags: RFC 2616 3.10.
 ghost use mathlib.Core.Path.{_≡_};
-ghost use Rattle.grammar.specs.Judge.{header};
+ghost use Rattle.grammar.specs.helpers.Judge.{header};
 ghost use Rattle.octets.specs.Comparing.{comparison};
 ghost use Rattle.language.specs.Grammar.{rules};
 ghost use Rattle.language.specs.Reading.{verdict, equality};
-ghost use Rattle.language.specs.Scan.{part-end};
+ghost use Rattle.language.specs.helpers.Scan.{part-end};
 use octets::Compared;
 use octets::Refusal;
 

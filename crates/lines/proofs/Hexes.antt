@@ -15,7 +15,7 @@ use Rattle.octets.specs.Bytes.{within, hex?, hex-value}
 use Rattle.numerals.specs.Numeral.{every}
 use Rattle.numerals.proofs.Digits.{split, at-true, at-false}
 use Rattle.lines.specs.Grammar.{DIGIT_LIMIT}
-use Rattle.lines.specs.Pairs.{pairs}
+use Rattle.lines.specs.helpers.Pairs.{pairs}
 use Rattle.lines.specs.declared.Hex.{Hex}
 use Rattle.lines.specs.declared.Hex.the-variants.{Bytes, Bad}
 use Rattle.lines.specs.Reading.{before, bytes-of, within-room, spelled, answer, filled}

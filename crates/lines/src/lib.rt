@@ -6,7 +6,7 @@ ghost use lib.ListN.{length};
 ghost use Rattle.octets.specs.Bytes.{hex?};
 ghost use Rattle.numerals.specs.Numeral.{every};
 ghost use Rattle.lines.specs.Reading.{line-end, gathered-line, gathering, spelled, answer, filled};
-ghost use Rattle.lines.specs.Pairs.{pairs};
+ghost use Rattle.lines.specs.helpers.Pairs.{pairs};
 
 // The most digits that a line may have.
 pub const DIGIT_LIMIT: usize = 32768;
@@ -46,8 +46,8 @@ pub fn gather(piece: &[u8], line: &mut [u8], held: usize) -> Gathered
     ensures writes { λ _. ⌜ now (line .exit) ≡ gathered-line (now (line .entry)) held (now (piece .entry)) ⌝ }
 {
     let e = line_end(piece);
-    let h = least(held, line.len());
-    let k = least(e, line.len() - h);
+    let h = octets::least(held, line.len());
+    let k = octets::least(e, line.len() - h);
     let held = text::put_bytes(&piece[..k], line, h);
     if e < piece.len() {
         Gathered {
@@ -111,10 +111,4 @@ fn put_pairs(line: &[u8], out: &mut [u8])
         i += 1;
         j += 2;
     }
-}
-
-fn least(a: usize, b: usize) -> usize
-    ensures { λ r. ⌜ r ≡ min a b ⌝ }
-{
-    if a < b { a } else { b }
 }

@@ -6,8 +6,8 @@ use Rattle.calendar.specs.Gregorian.{leap?, days-of-years, date?, time?}
 use Rattle.calendar.specs.Instants.{seconds-of}
 use Rattle.date.specs.Grammar.{full-year, fault-of}
 use Rattle.url.specs.Bytes.{host?, unreserved?, path?, query?}
-use Rattle.framing.specs.Machine.{lineStep, lineLive, lineEnds, leaveLine, enterChunk, step, live, done, pastRoom, over}
-use Rattle.framing.specs.Scan.{answer}
+use Rattle.framing.specs.helpers.Machine.{lineStep, lineLive, lineEnds, leaveLine, enterChunk, step, live, done, pastRoom, over}
+use Rattle.framing.specs.helpers.Scan.{answer}
 use Rattle.framing.specs.Reading.{judge, decode}
 use Rattle.marked.specs.Cases.{All, table}
 

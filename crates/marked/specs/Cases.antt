@@ -8,7 +8,7 @@ use mathlib.Core.List.{List, [], _∷_}
 use Rattle.grammar.specs.Comparing.{outcome, compare}
 use Rattle.grammar.specs.Reading as Header
 use Rattle.grammar.specs.Reading.{value}
-use Rattle.grammar.specs.Judge.{header}
+use Rattle.grammar.specs.helpers.Judge.{header}
 use Rattle.version.specs.declared.Version.{Version}
 use Rattle.version.specs.declared.Order.the-variants.{Less}
 use Rattle.version.specs.Grammar as VersionGrammar

@@ -6,7 +6,7 @@ use mathlib.Core.List.{List}
 use Rattle.octets.specs.Case.{alike}
 use Rattle.media.specs.declared.Parameter.{Parameter}
 use Rattle.media.specs.Meaning.{plain, charset-name, same-text, same-setting}
-use Rattle.media.specs.Places.{part-at, setting-at}
+use Rattle.media.specs.helpers.Places.{part-at, setting-at}
 
 pub fails : (r x y : Bool) → r ≡ x → r ≡ false → false ≡ (x && y)
 fails r x y d e = sym (rw (sym d ∙ e))

@@ -7,7 +7,7 @@ use mathlib.Core.List.{List, _∷_}
 use lib.Dec.{T}
 use Rattle.grammar.specs.Reading.{Verdict, value, refused, Answers}
 use Rattle.grammar.specs.Comparing.{outcome, refused-at}
-use Rattle.grammar.specs.Judge.{header}
+use Rattle.grammar.specs.helpers.Judge.{header}
 use Rattle.grammar.proofs.Demands.{answered-exactly}
 use Rattle.grammar.proofs.Comparing.{compare-read, compare-values, compare-swap, compare-chain}
 use Rattle.octets.specs.Bytes.{text?}
@@ -17,7 +17,7 @@ use Rattle.media.specs.Meaning.{unquoted, plain, charset-name, Setting, 
 use Rattle.media.specs.Meaning.{same-setting, one-of, same-set, same-meaning, Agree, charset-is}
 use Rattle.media.specs.Charset.{Effective, stated, default-charset, charsets}
 use Rattle.media.specs.Reading.{equality}
-use Rattle.media.specs.Places.{part-at, Says}
+use Rattle.media.specs.helpers.Places.{part-at, Says}
 use Rattle.media.proofs.Plain.{no-pair}
 use Rattle.media.proofs.Places.{one-way, says, says-nothing}
 use Rattle.media.proofs.Effect.{default-effect, stated-effect, value-effect}

@@ -5,7 +5,7 @@ use mathlib.Core.Path.{_≡_, refl, sym, ap, _∙_}
 use mathlib.Core.Bool.{Bool, true, false, cond, _||_, true≢false}
 use mathlib.Core.List.{List, [], _∷_}
 use Rattle.grammar.specs.Reading.{value}
-use Rattle.grammar.specs.Judge.{header}
+use Rattle.grammar.specs.helpers.Judge.{header}
 use Rattle.grammar.proofs.Values.{answered-alike}
 use Rattle.octets.specs.Case.{alike}
 use Rattle.octets.proofs.Alike.{alike-swap}
@@ -13,7 +13,7 @@ use Rattle.media.specs.declared.Parameter.{Parameter}
 use Rattle.media.specs.Grammar.{Media, media}
 use Rattle.media.specs.Meaning.{plain, charset-name, charset-is, Setting, Meaning, meanings, same-setting, one-of}
 use Rattle.media.specs.Charset.{Effective, stated, latin-1, no-charset, text-type, default-charset, charsets}
-use Rattle.media.specs.Places.{part-at, setting-at, settings-at, stated-at, meaning-at, Says}
+use Rattle.media.specs.helpers.Places.{part-at, setting-at, settings-at, stated-at, meaning-at, Says}
 use Rattle.media.proofs.Agreeing.{text-self, or-true}
 use Rattle.media.proofs.Places.{one-way, says}
 

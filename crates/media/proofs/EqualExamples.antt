@@ -6,7 +6,7 @@ use Rattle.grammar.specs.Grammar.{lower}
 use Rattle.grammar.specs.Comparing.{Comparison, outcome, refused-at}
 use Rattle.grammar.specs.Text.{bytes}
 use Rattle.grammar.specs.Reading.{Verdict, value, refused}
-use Rattle.grammar.specs.Judge.{header}
+use Rattle.grammar.specs.helpers.Judge.{header}
 use Rattle.octets.specs.Bytes.{blank?, token?, text?, escaped?}
 use Rattle.media.specs.Charset.{Effective, stated, latin-1, no-charset, charsets}
 use Rattle.media.specs.Reading.{equality}

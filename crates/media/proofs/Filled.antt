@@ -6,14 +6,14 @@ use mathlib.Core.List.{List, [], _∷_, _++_, append-nil}
 use lib.ListN.{length, take, set}
 use Rattle.grammar.specs.Grammar.{Part}
 use Rattle.grammar.specs.Reading.{Verdict, value, refused}
-use Rattle.grammar.specs.Judge.{header}
+use Rattle.grammar.specs.helpers.Judge.{header}
 use Rattle.media.specs.declared.MediaType.{MediaType}
 use Rattle.media.specs.declared.Parameter.{Parameter}
 use Rattle.media.specs.declared.Outcome.the-variants as O
 use Rattle.media.specs.declared.Reading.{Reading}
 use Rattle.media.specs.Grammar.{Name, entries, kind, Media, media, rules, parameter-limit}
 use Rattle.media.specs.Reading.{padded, filled, table-of, verdict, Answered}
-use Rattle.media.specs.Scan.{counted, Before, Found, Read}
+use Rattle.media.specs.helpers.Scan.{counted, Before, Found, Read}
 use Rattle.media.proofs.Scan.{counted-in, no-more}
 
 padded-take : (n : ℕ) (ps : List Parameter) → length ps ≤ n → take (length ps) (padded n ps) ≡ ps

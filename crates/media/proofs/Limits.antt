@@ -10,13 +10,13 @@ use lib.Dec.{ltb, eqb}
 use lib.ListN.{length, length-append}
 use Rattle.grammar.specs.Grammar.{Part, past}
 use Rattle.grammar.specs.Reading.{Limit, crowded, repeated}
-use Rattle.grammar.specs.Scans.{slice}
+use Rattle.grammar.specs.helpers.Scans.{slice}
 use Rattle.grammar.proofs.Longest.{past-length}
 use Rattle.grammar.proofs.Pieces.{slice-length}
 use Rattle.media.specs.declared.Parameter.{Parameter}
 use Rattle.media.specs.Grammar.{Name, attribute, attribute?, attributes, among, repeats, limit, parameter-limit}
-use Rattle.media.specs.Places.{names-at}
-use Rattle.media.specs.Scan.{texts}
+use Rattle.media.specs.helpers.Places.{names-at}
+use Rattle.media.specs.helpers.Scan.{texts}
 
 module _ (k : ℕ) (ps : List (Part Name)) where
   pub limit-crowded : parameter-limit < length (attributes ps) → limit k ps ≡ some crowded

@@ -7,8 +7,8 @@ use lib.Dec.{T}
 use lib.ListN.{length, take}
 use Rattle.grammar.specs.Grammar.{Part}
 use Rattle.grammar.specs.Reading.{value, refused}
-use Rattle.grammar.specs.Judge.{header}
-use Rattle.grammar.specs.Slices.{Slices}
+use Rattle.grammar.specs.helpers.Judge.{header}
+use Rattle.grammar.specs.helpers.Slices.{Slices}
 use Rattle.grammar.proofs.Deterministic.{deterministic?}
 use Rattle.grammar.proofs.Pieces.{slice-within, slice-is}
 use Rattle.grammar.proofs.Slices.{slices}
@@ -24,7 +24,7 @@ use Rattle.media.specs.Grammar.{Name, media-type, entries, Media, none-r
 use Rattle.media.specs.Meaning.{settings, meaning, meanings}
 use Rattle.media.specs.Charset.{Effective, default-charset, stated-or, effective, charsets}
 use Rattle.media.specs.Reading.{outcome-verdict, verdict}
-use Rattle.media.specs.Places.{settings-at, stated-at, meaning-at, effective-at, Placed, NamesWithin, PlacedMedia, Says}
+use Rattle.media.specs.helpers.Places.{settings-at, stated-at, meaning-at, effective-at, Placed, NamesWithin, PlacedMedia, Says}
 
 -- no media type can be read in two ways
 pub one-way : T (deterministic? media-type)

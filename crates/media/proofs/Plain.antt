@@ -10,7 +10,7 @@ use lib.Dec.{eqb, leb}
 use lib.ListN.{length, drop, getD, drop-of-length-le}
 use lib.Seq.{drop-cons}
 use Rattle.media.specs.Meaning.{unquoted, plain, same-text}
-use Rattle.media.specs.Places.{PlainAt, same-byte}
+use Rattle.media.specs.helpers.Places.{PlainAt, same-byte}
 
 pub no-pair : (b : ℕ) (t : List ℕ) → (b ≡ 92 → ⊥) → unquoted (b ∷ t) ≡ b ∷ unquoted t
 no-pair b [] n = refl

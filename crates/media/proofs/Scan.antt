@@ -9,11 +9,11 @@ use mathlib.Core.Option.{none, some}
 use lib.Dec.{eqb}
 use lib.ListN.{length, getD, take, length-append}
 use Rattle.grammar.specs.Grammar.{Part, Grammar, void, byte, _⨾_, part}
-use Rattle.grammar.specs.Derivative.{deriv}
+use Rattle.grammar.specs.helpers.Derivative.{deriv}
 use Rattle.grammar.specs.Reading.{refused, repeated, crowded}
-use Rattle.grammar.specs.Checks.{ahead}
-use Rattle.grammar.specs.Judge.{header, finished}
-use Rattle.grammar.specs.Scans.{slice, from}
+use Rattle.grammar.specs.helpers.Checks.{ahead}
+use Rattle.grammar.specs.helpers.Judge.{header, finished}
+use Rattle.grammar.specs.helpers.Scans.{slice, from}
 use Rattle.grammar.proofs.Loop.{header-short}
 use Rattle.grammar.proofs.Pieces.{slice-length}
 use Rattle.grammar.proofs.Repeats.{may-end}
@@ -23,7 +23,7 @@ use Rattle.grammar.proofs.Skips.{skip-run}
 use Rattle.octets.specs.Bytes.{token?, blank?}
 use Rattle.octets.specs.Classes.{TOKEN, BLANK}
 use Rattle.octets.specs.Quoted.{QUOTE, quoted-text, quoted-end}
-use Rattle.octets.specs.Runs.{run-end}
+use Rattle.octets.specs.helpers.Runs.{run-end}
 use Rattle.octets.proofs.Bytes.{told-apart}
 use Rattle.octets.proofs.Runs.{run-is}
 use Rattle.scans.proofs.Quoted.{quoted-closed, quoted-bad, quoted-cut-off}
@@ -34,8 +34,8 @@ use Rattle.media.specs.declared.Step.the-variants.{Passed, Stopped}
 use Rattle.media.specs.Grammar.{Name, type, subtype, attribute, value, quoted, SLASH}
 use Rattle.media.specs.Grammar.{SEMICOLON, EQUALS, token, blanks, argument, parameters, media-type, attributes}
 use Rattle.media.specs.Grammar.{attribute?, quoted?, among, repeats, limit, parameter-limit, entry, entries, kind, media, rules}
-use Rattle.media.specs.Places.{part-at, names-at, Placed, PlacedParameter, PlacedTable}
-use Rattle.media.specs.Scan.{texts, counted, Before, parts, Found, NameAt, Attribute, Read, StepAt}
+use Rattle.media.specs.helpers.Places.{part-at, names-at, Placed, PlacedParameter, PlacedTable}
+use Rattle.media.specs.helpers.Scan.{texts, counted, Before, parts, Found, NameAt, Attribute, Read, StepAt}
 use Rattle.media.proofs.Limits.{limit-crowded, limit-kept, attributes-with, attributes-without, limit-without}
 use Rattle.media.proofs.Limits.{texts-append, texts-length, names-length, repeats-elsewhere, repeats-behind}
 

@@ -13,7 +13,7 @@ use Rattle.media.specs.Grammar.{among, parameter-limit}
 use Rattle.media.specs.Meaning.{Setting, charset-name, same-setting, one-of, all-of}
 use Rattle.media.specs.Charset.{Effective, stated, latin-1, no-charset, text-type, default-charset}
 use Rattle.media.specs.Reading.{unused}
-use Rattle.media.specs.Places.{part-at, names-at, setting-at, settings-at, stated-at, Placed, PlacedParameter, PlacedTable}
+use Rattle.media.specs.helpers.Places.{part-at, names-at, setting-at, settings-at, stated-at, Placed, PlacedParameter, PlacedTable}
 
 placed-at : (s : List ℕ) (ps : List Parameter) (i : ℕ) → Placed s ps → i < length ps → PlacedParameter s (getD ps i unused)
 placed-at s [] i p h = absurd (omega arith)

@@ -2,5 +2,4 @@ pub mod Grammar
 pub mod Meaning
 pub mod Charset
 pub mod Reading
-pub mod Places
-pub mod Scan
+pub mod helpers

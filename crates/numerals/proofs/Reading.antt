@@ -11,8 +11,8 @@ use lib.ListN.{length, drop}
 use lib.Seq.{drop-at}
 use Rattle.octets.specs.declared.Decimal.the-variants.{Number}
 use Rattle.octets.specs.Bytes.{digit?, hex-value}
-use Rattle.octets.specs.Runs.{run}
-use Rattle.octets.specs.Numbers.{grow, digits, number, passing, number-from, decimal-of, decimal-at}
+use Rattle.octets.specs.helpers.Runs.{run}
+use Rattle.octets.specs.Numbers.{grow, number-after, number, passing, number-from, decimal-of, decimal-at}
 use Rattle.octets.proofs.Bytes.{digit-low, digit-high}
 use Rattle.octets.proofs.Spans.{span}
 use Rattle.numerals.specs.Numeral.{glyph, numeral, value-from, every}
@@ -27,18 +27,18 @@ both false y e = absurd (true≢false (sym e))
 digit-value : (b : ℕ) → digit? b ≡ true → hex-value b ≡ b - 48
 digit-value b d = rw (le-leb b 57 (digit-high b d))
 
-number-value : (n : ℕ) (t : List ℕ) → every digit? t ≡ true → digits n t ≡ value-from 10 n t
+number-value : (n : ℕ) (t : List ℕ) → every digit? t ≡ true → number-after n t ≡ value-from 10 n t
 number-value n [] e = refl
 number-value n (b ∷ t) e =
     let w = both (digit? b) (every digit? t) e in
     number-value (grow n b) t (w .1) ∙ ap (λ (d : ℕ). value-from 10 (n * 10 + d) t) (sym (digit-value b (w .0)))
 
 -- digits only make a number larger
-digits-grow : (n : ℕ) (t : List ℕ) → n ≤ digits n t
+digits-grow : (n : ℕ) (t : List ℕ) → n ≤ number-after n t
 digits-grow n [] = omega arith
 digits-grow n (b ∷ t) = omega (arith, digits-grow (grow n b) t)
 
-none-passes : (limit n : ℕ) (t : List ℕ) → digits n t ≤ limit → passing limit n t ≡ none
+none-passes : (limit n : ℕ) (t : List ℕ) → number-after n t ≤ limit → passing limit n t ≡ none
 none-passes limit n [] h = refl
 none-passes limit n (b ∷ t) h =
     rw (le-ltb limit (grow n b) (omega (arith, digits-grow (grow n b) t)), none-passes limit (grow n b) t h)

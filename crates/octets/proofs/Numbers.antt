@@ -12,12 +12,12 @@ use lib.Seq.{drop-cons}
 use Rattle.octets.specs.declared.Decimal.{Decimal}
 use Rattle.octets.specs.declared.Decimal.the-variants.{Number, Above}
 use Rattle.octets.specs.Bytes.{digit?}
-use Rattle.octets.specs.Runs.{run, run-end}
-use Rattle.octets.specs.Numbers.{grow, digits, later, passing, number-from, decimal-of, decimal-at}
+use Rattle.octets.specs.helpers.Runs.{run, run-end}
+use Rattle.octets.specs.Numbers.{grow, number-after, later, passing, number-from, decimal-of, decimal-at}
 
 -- the same with the number n in front, whose digits begin at z
 abbrev decimal-with : Option ℕ → ℕ → ℕ → ℕ → List ℕ → Decimal
-decimal-with none z n i t = number-from (digits n t) z (i + length t)
+decimal-with none z n i t = number-from (number-after n t) z (i + length t)
 decimal-with (some k) z n i t = Above (i + k) (i + length t)
 
 abbrev pub decimal-from : ℕ → ℕ → ℕ → List ℕ → ℕ → Decimal
@@ -35,7 +35,7 @@ decimal-start limit s i = go (passing limit 0 (run digit? (drop i s)))
 shifted : (o : Option ℕ) (z n i : ℕ) (b : ℕ) (t : List ℕ) → decimal-with (later o) z n i (b ∷ t) ≡ decimal-with o z (grow n b) (i + 1) t
 shifted none z n i b t =
     let e : i + suc (length t) ≡ (i + 1) + length t = omega arith in
-    ap (number-from (digits (grow n b) t) z) e
+    ap (number-from (number-after (grow n b) t) z) e
 shifted (some k) z n i b t =
     let e : i + suc k ≡ (i + 1) + k = omega arith in
     let f : i + suc (length t) ≡ (i + 1) + length t = omega arith in

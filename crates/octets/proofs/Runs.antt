@@ -8,7 +8,7 @@ use mathlib.Core.List.{List, [], _∷_}
 use lib.ListN.{length, drop, getD, length-drop, drop-of-length-le}
 use lib.Seq.{drop-cons, getD-drop}
 use Rattle.grammar.proofs.Scans.{Run}
-use Rattle.octets.specs.Runs.{run, run-end}
+use Rattle.octets.specs.helpers.Runs.{run, run-end}
 
 module _ (p : ℕ → Bool) (s : List ℕ) (i : ℕ) where
   -- behind the end of the list

@@ -5,7 +5,7 @@ use mathlib.Core.List.{List, [], _∷_}
 use Prim.Native.Nat.{ℕ}
 use native.Mathlib.Omega.{arith}
 use Rattle.octets.specs.Bytes.{digit?, letter?, blank?, token?, content?, text?, escaped?}
-use Rattle.octets.specs.Runs.{member, Bits}
+use Rattle.octets.specs.helpers.Runs.{member, Bits}
 use Rattle.octets.proofs.Spans.{values, span}
 
 -- the bits of a test, where antt computes both alike

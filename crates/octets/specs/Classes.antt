@@ -2,13 +2,13 @@
 use Prim.Native.Nat.{ℕ}
 use mathlib.Core.List.{List, [], _∷_}
 use lib.Dec.{T, ltb}
-use Rattle.grammar.specs.Grammar.{Class, just}
-use Rattle.grammar.specs.Classes.{span, _or_, but}
+use Rattle.grammar.specs.Grammar.{Class, Grammar, byte, plus, just}
+use Rattle.grammar.specs.Classes.{range, _or_, but}
 use Rattle.octets.specs.Bytes.{digit?, letter?, hex?, blank?, separators, token?, text?, escaped?}
 
 pub digit-below : (b : ℕ) → T (digit? b) → T (ltb b 256)
 unfolding digit?
-digit-below b = span 48 57 tt .below b
+digit-below b = range 48 57 tt .below b
 
 pub digit-some : T (digit? 48)
 unfolding digit?
@@ -19,7 +19,7 @@ DIGIT = record { has = digit?; below = digit-below; some = 48; holds = digit-som
 
 pub letter-below : (b : ℕ) → T (letter? b) → T (ltb b 256)
 unfolding letter?
-letter-below b = (span 65 90 tt or span 97 122 tt) .below b
+letter-below b = (range 65 90 tt or range 97 122 tt) .below b
 
 pub letter-some : T (letter? 97)
 unfolding letter?
@@ -30,7 +30,7 @@ LETTER = record { has = letter?; below = letter-below; some = 97; holds = letter
 
 pub hex-below : (b : ℕ) → T (hex? b) → T (ltb b 256)
 unfolding hex?
-hex-below b = (span 48 57 tt or span 65 70 tt or span 97 102 tt) .below b
+hex-below b = (range 48 57 tt or range 65 70 tt or range 97 102 tt) .below b
 
 pub hex-some : T (hex? 48)
 unfolding hex?
@@ -52,7 +52,7 @@ BLANK = record { has = blank?; below = blank-below; some = 32; holds = blank-som
 
 pub token-below : (b : ℕ) → T (token? b) → T (ltb b 256)
 unfolding token?
-token-below b = but (span 33 126 tt) separators 97 tt .below b
+token-below b = but (range 33 126 tt) separators 97 tt .below b
 
 pub token-some : T (token? 97)
 unfolding token?
@@ -61,9 +61,13 @@ token-some = tt
 abbrev pub TOKEN : Class
 TOKEN = record { has = token?; below = token-below; some = 97; holds = token-some }
 
+-- "**Token** (2.2): one or more of" these bytes
+abbrev pub token : {L : Type 0} → Grammar L
+token = plus (byte TOKEN)
+
 pub text-below : (b : ℕ) → T (text? b) → T (ltb b 256)
 unfolding text?
-text-below b = but (just 9 tt or span 32 126 tt or span 128 255 tt) (34 ∷ 92 ∷ []) 97 tt .below b
+text-below b = but (just 9 tt or range 32 126 tt or range 128 255 tt) (34 ∷ 92 ∷ []) 97 tt .below b
 
 pub text-some : T (text? 97)
 unfolding text?
@@ -74,7 +78,7 @@ TEXT = record { has = text?; below = text-below; some = 97; holds = text-some }
 
 pub escaped-below : (b : ℕ) → T (escaped? b) → T (ltb b 256)
 unfolding escaped?
-escaped-below b = (just 9 tt or span 32 126 tt) .below b
+escaped-below b = (just 9 tt or range 32 126 tt) .below b
 
 pub escaped-some : T (escaped? 97)
 unfolding escaped?

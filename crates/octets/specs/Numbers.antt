@@ -10,20 +10,20 @@ use Rattle.octets.specs.declared.Decimal.the-variants.{Number, Above, Mi
 use Rattle.grammar.specs.Grammar.{Part}
 use Rattle.grammar.specs.Reading.{Limit, above}
 use Rattle.octets.specs.Bytes.{digit?}
-use Rattle.octets.specs.Runs.{run, run-end}
+use Rattle.octets.specs.helpers.Runs.{run, run-end}
 
 -- the number n with the digit b behind it
 abbrev pub grow : ℕ → ℕ → ℕ
 grow n b = n * 10 + (b - 48)
 
 -- the number that n makes with the digits s behind it
-abbrev pub digits : ℕ → List ℕ → ℕ
-digits n [] = n
-digits n (b ∷ s) = digits (grow n b) s
+abbrev pub number-after : ℕ → List ℕ → ℕ
+number-after n [] = n
+number-after n (b ∷ s) = number-after (grow n b) s
 
 -- the number that digits are; leading zeros are ignored
 abbrev pub number : List ℕ → ℕ
-number s = digits 0 s
+number s = number-after 0 s
 
 abbrev pub later : Option ℕ → Option ℕ
 later none = none

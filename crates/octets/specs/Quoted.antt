@@ -19,11 +19,11 @@ abbrev pub quoted-text : {L : Type 0} → Grammar L
 quoted-text = star (byte TEXT ∣ (byte BACKSLASH ⨾ byte ESCAPED))
 
 -- how many bytes at the front of s may stand between quotes; `pair` says that a backslash stands before them
-abbrev pub quoted : (pair : Bool) → List ℕ → ℕ
-quoted pair [] = 0
-quoted true (b ∷ s) = cond (escaped? b) (suc (quoted false s)) 0
-quoted false (b ∷ s) = cond (text? b) (suc (quoted false s)) (cond (eqb b 92) (suc (quoted true s)) 0)
+abbrev pub quoted-length : (pair : Bool) → List ℕ → ℕ
+quoted-length pair [] = 0
+quoted-length true (b ∷ s) = cond (escaped? b) (suc (quoted-length false s)) 0
+quoted-length false (b ∷ s) = cond (text? b) (suc (quoted-length false s)) (cond (eqb b 92) (suc (quoted-length true s)) 0)
 
 -- the place where the text and pairs that stand at i in s stop: at the closing quote, at a byte that may not stand there, or at the end
 abbrev pub quoted-end : List ℕ → ℕ → ℕ
-quoted-end s i = i + quoted false (drop i s)
+quoted-end s i = i + quoted-length false (drop i s)

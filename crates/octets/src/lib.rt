@@ -1,12 +1,12 @@
 // The basic rules of RFC 2616 2.2 as document 01 states them: classes of bytes, letter case, decimal numbers under a limit.
 ghost use mathlib.Core.Path.{_≡_};
 ghost use mathlib.Core.Bool.{Bool, cond};
-ghost use Prim.Native.Nat.{ℕ, _+_, _*_};
+ghost use Prim.Native.Nat.{ℕ, _+_, _*_, min};
 ghost use lib.Dec.{leb};
 ghost use lib.ListN.{drop};
 ghost use Rattle.grammar.specs.Grammar.{lower};
 ghost use Rattle.octets.specs.Bytes.{digit?, letter?, blank?, token?, content?, text?, escaped?, hex?, hex-value};
-ghost use Rattle.octets.specs.Runs.{member, Bits, run-end};
+ghost use Rattle.octets.specs.helpers.Runs.{member, Bits, run-end};
 ghost use Rattle.octets.specs.Numbers.{number-from, decimal-at};
 ghost use Rattle.octets.specs.Case.{alike, agreeing};
 ghost use Rattle.octets.specs.Quoted.{quoted-end};
@@ -14,6 +14,33 @@ ghost use Rattle.octets.specs.Same.{same?};
 
 // The longest header value.
 pub const VALUE_LIMIT: usize = 8192;
+
+// Document 01's refusal numbers.
+pub const MALFORMED: u8 = 1;
+
+pub const ABOVE_LIMIT: u8 = 2;
+
+pub const NO_SUCH_DATE: u8 = 3;
+
+pub const WRONG_DAY: u8 = 4;
+
+pub const LINE_TOO_LONG: u8 = 5;
+
+pub const TRAILER_TOO_LONG: u8 = 6;
+
+pub const BODY_TOO_LARGE: u8 = 7;
+
+pub const OUTPUT_TOO_SHORT: u8 = 8;
+
+pub const OUT_OF_RANGE: u8 = 9;
+
+pub const TOO_MANY_PARAMETERS: u8 = 10;
+
+pub const REPEATED_ATTRIBUTE: u8 = 11;
+
+pub const NESTED_TOO_DEEP: u8 = 12;
+
+pub const VALUE_TOO_LONG: u8 = 13;
 
 // Why an input was refused: document 01's number, and the place it names, counted from 0.
 pub struct Refusal {
@@ -25,6 +52,13 @@ pub struct Refusal {
 pub enum Written {
     Length(usize),
     Refused(Refusal),
+}
+
+// A writer's refusal; its place is 0.
+pub fn unwritten(number: u8) -> Written
+    ensures { λ r. ⌜ r ≡ Written.Refused (record { number = number; place = 0 }) ⌝ }
+{
+    Written::Refused(Refusal { number, place: 0 })
 }
 
 // Whether two values given as bytes are the same in the sense of their comparison, or which of them was refused.
@@ -271,6 +305,13 @@ pub fn quoted_end(s: &[u8], from: usize) -> usize
         i = class_end(TEXT, s, i + 2);
     }
     i
+}
+
+// The smaller of two numbers.
+pub fn least(a: usize, b: usize) -> usize
+    ensures { λ r. ⌜ r ≡ min a b ⌝ }
+{
+    if a < b { a } else { b }
 }
 
 // Are two parts the same, byte for byte?

@@ -9,21 +9,21 @@ use mathlib.Core.Option.{none, some}
 use lib.Dec.{eqb}
 use lib.ListN.{length, getD}
 use Rattle.grammar.specs.Grammar.{Part, Grammar, void, empty, byte, nest, just}
-use Rattle.grammar.specs.Derivative.{live, deriv, then}
+use Rattle.grammar.specs.helpers.Derivative.{live, deriv, then}
 use Rattle.grammar.specs.Reading.{deep, Verdict, refused}
-use Rattle.grammar.specs.Judge.{held}
-use Rattle.grammar.specs.Checks.{ahead}
-use Rattle.grammar.specs.Scans.{from}
+use Rattle.grammar.specs.helpers.Judge.{held}
+use Rattle.grammar.specs.helpers.Checks.{ahead}
+use Rattle.grammar.specs.helpers.Scans.{from}
 use Rattle.grammar.proofs.Nested.{level-opens, level-breaks, level-ends, level-closes, level-fails, level-item, level-cut-off, pair-begins, pair-ends, pair-fails, pair-cut-off}
 use Rattle.octets.specs.Bytes.{escaped?}
 use Rattle.octets.specs.Classes.{ESCAPED}
-use Rattle.octets.specs.Runs.{Bits}
+use Rattle.octets.specs.helpers.Runs.{Bits}
 use Rattle.octets.proofs.Tables.{bits}
 use Rattle.octets.proofs.Bytes.{told-apart}
 use Rattle.products.specs.declared.Products.{Products}
 use Rattle.products.specs.Counting.{Name, opened, closed, levels}
 use Rattle.products.specs.Grammar.{comment-text?, content, level-limit, rules}
-use Rattle.products.specs.Scan.{within, Enclosed, Place, opening, closing, entered, CommentRead, Passed, ContentRead, RefusedWithin, Inside, PlainRead}
+use Rattle.products.specs.helpers.Scan.{within, Enclosed, Place, opening, closing, entered, CommentRead, Passed, ContentRead, RefusedWithin, Inside, PlainRead}
 use Rattle.products.proofs.Counting.{levels-append, nothing-enclosed, enclosed-more, comment-whole}
 
 -- the bits of the class, computed over all 256 bytes

@@ -5,7 +5,7 @@ use mathlib.Core.Path.{_≡_, refl, ap, _∙_}
 use mathlib.Core.List.{List, [], _∷_, _++_}
 use Rattle.grammar.specs.Grammar.{Part}
 use Rattle.products.specs.Counting.{Name, level-behind, levels, product-count, outermost, deepest}
-use Rattle.products.specs.Scan.{Enclosed, Whole, opening, closing}
+use Rattle.products.specs.helpers.Scan.{Enclosed, Whole, opening, closing}
 
 pub levels-append : (n : ℕ) (ps qs : List (Part Name)) → levels n (ps ++ qs) ≡ levels (levels n ps) qs
 levels-append n [] qs = refl

@@ -8,7 +8,7 @@ use lib.Dec.{T}
 use Rattle.grammar.specs.Grammar.{Part, Parses}
 use Rattle.grammar.specs.Reading as G
 use Rattle.grammar.specs.Reading.{Verdict, Answers, too-long, malformed, breaks, faulty, reads}
-use Rattle.grammar.specs.Judge.{header}
+use Rattle.grammar.specs.helpers.Judge.{header}
 use Rattle.grammar.proofs.Deterministic.{deterministic?}
 use Rattle.grammar.proofs.Demands.{answered-exactly, one-parse}
 use Rattle.octets.specs.Bytes.{token?, blank?, escaped?}

@@ -5,7 +5,7 @@ use mathlib.Core.Path.{_≡_, refl}
 use mathlib.Core.List.{List, [], _∷_}
 use Rattle.grammar.specs.Text.{bytes}
 use Rattle.grammar.specs.Reading.{value, refused}
-use Rattle.grammar.specs.Judge.{header}
+use Rattle.grammar.specs.helpers.Judge.{header}
 use Rattle.octets.specs.Bytes.{token?, blank?, escaped?}
 use Rattle.products.specs.Grammar.{comment-text?, rules}
 

@@ -9,12 +9,12 @@ use mathlib.Core.Option.{none}
 use lib.Dec.{eqb, ltb}
 use lib.ListN.{length, getD}
 use Rattle.grammar.specs.Grammar.{Part, Grammar, void, empty, byte, _⨾_, star, part, rest, opt}
-use Rattle.grammar.specs.Derivative.{nullable, deriv, ends}
+use Rattle.grammar.specs.helpers.Derivative.{nullable, deriv, ends}
 use Rattle.grammar.specs.Reading as G
 use Rattle.grammar.specs.Reading.{refused}
-use Rattle.grammar.specs.Judge.{header}
-use Rattle.grammar.specs.Checks.{ahead}
-use Rattle.grammar.specs.Scans.{slice, from}
+use Rattle.grammar.specs.helpers.Judge.{header}
+use Rattle.grammar.specs.helpers.Checks.{ahead}
+use Rattle.grammar.specs.helpers.Scans.{slice, from}
 use Rattle.grammar.proofs.Ahead.{ahead-one}
 use Rattle.grammar.proofs.Loop.{header-short}
 use Rattle.grammar.proofs.Alike.{alike-at}
@@ -23,14 +23,14 @@ use Rattle.grammar.proofs.Scans.{Run, same-judge, goes-on, part-plus, part-plus
 use Rattle.grammar.proofs.Skips.{skip-run}
 use Rattle.octets.specs.Bytes.{blank?, token?}
 use Rattle.octets.specs.Classes.{TOKEN, BLANK}
-use Rattle.octets.specs.Runs.{run-end}
+use Rattle.octets.specs.helpers.Runs.{run-end}
 use Rattle.octets.proofs.Bytes.{told-apart}
 use Rattle.octets.proofs.Runs.{run-end-stop, run-end-next}
 use Rattle.octets.proofs.Runs.{run-is}
 use Rattle.products.specs.declared.Products.{Products}
 use Rattle.products.specs.Counting.{Name, product, opened, levels, product-count, outermost, deepest}
 use Rattle.products.specs.Grammar.{token, slash-token, a-product, further, more, products, value, rules}
-use Rattle.products.specs.Scan.{within, Whole, Place, opening, entered, CommentRead, Found, NoComment, ItemRead}
+use Rattle.products.specs.helpers.Scan.{within, Whole, Place, opening, entered, CommentRead, Found, NoComment, ItemRead}
 use Rattle.products.proofs.Counting.{levels-append, product-append, outermost-append, deepest-append}
 use Rattle.products.proofs.Comments.{quiet, opened-one}
 

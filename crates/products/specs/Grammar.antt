@@ -6,7 +6,7 @@ use mathlib.Core.List.{List, [], _∷_}
 use mathlib.Core.Option.{Option, none, some}
 use lib.Dec.{T, ltb, eqb}
 use Rattle.grammar.specs.Grammar.{Class, Part, Grammar, byte, _⨾_, _∣_, star, part, opt, plus, just, nested}
-use Rattle.grammar.specs.Classes.{one-of, span, _or_, but}
+use Rattle.grammar.specs.Classes.{one-of, range, _or_, but}
 use Rattle.grammar.specs.Reading.{Limit, deep, Rules}
 use Rattle.octets.specs.Bytes.{within}
 use Rattle.octets.specs.Classes.{TOKEN, BLANK, ESCAPED}
@@ -19,7 +19,7 @@ comment-text? b = (eqb b 9 || (within 32 126 b || within 128 255 b)) && not (one
 
 pub comment-text-below : (b : ℕ) → T (comment-text? b) → T (ltb b 256)
 unfolding comment-text?
-comment-text-below b = but (just 9 tt or span 32 126 tt or span 128 255 tt) (40 ∷ 41 ∷ 92 ∷ []) 97 tt .below b
+comment-text-below b = but (just 9 tt or range 32 126 tt or range 128 255 tt) (40 ∷ 41 ∷ 92 ∷ []) 97 tt .below b
 
 pub comment-text-some : T (comment-text? 97)
 unfolding comment-text?

@@ -1,5 +1,5 @@
 pub mod Counting
 pub mod Grammar
 pub mod Reading
-pub mod Scan
 pub mod Wording
+pub mod helpers

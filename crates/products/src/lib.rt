@@ -2,10 +2,10 @@
 ghost use mathlib.Core.Path.{_≡_};
 ghost use Prim.Native.Nat.{_≤_, _<_, max};
 ghost use lib.ListN.{length};
-ghost use Rattle.grammar.specs.Judge.{header};
+ghost use Rattle.grammar.specs.helpers.Judge.{header};
 ghost use Rattle.products.specs.Grammar.{rules};
 ghost use Rattle.products.specs.Reading.{verdict};
-ghost use Rattle.products.specs.Scan.{CommentAt, ContentAt, PlainAt, Inside, Found, NoComment, ItemAt};
+ghost use Rattle.products.specs.helpers.Scan.{CommentAt, ContentAt, PlainAt, Inside, Found, NoComment, ItemAt};
 use octets::Refusal;
 
 // How many levels of comments may be open.

@@ -7,7 +7,7 @@ use mathlib.Core.List.{List, [], _∷_}
 use lib.Dec.{T}
 use lib.ListN.{length}
 use Rattle.grammar.specs.Reading.{Verdict, value, Answers, reads}
-use Rattle.grammar.specs.Judge.{header}
+use Rattle.grammar.specs.helpers.Judge.{header}
 use Rattle.grammar.proofs.Deterministic.{deterministic?}
 use Rattle.grammar.proofs.Demands.{answered-exactly}
 use Rattle.octets.specs.Bytes.{digit?}

@@ -10,21 +10,21 @@ use lib.ListN.{length, getD, drop, take, length-drop, List·getD-eq-default}
 use lib.Seq.{take-all, drop-cons}
 use Rattle.grammar.specs.Grammar.{Class, Part, empty, byte, up-to, part, just}
 use Rattle.grammar.specs.Reading.{value, refused}
-use Rattle.grammar.specs.Checks.{ahead}
-use Rattle.grammar.specs.Judge.{header}
-use Rattle.grammar.specs.Scans.{slice, from}
+use Rattle.grammar.specs.helpers.Checks.{ahead}
+use Rattle.grammar.specs.helpers.Judge.{header}
+use Rattle.grammar.specs.helpers.Scans.{slice, from}
 use Rattle.grammar.proofs.Loop.{header-short, judge-end}
 use Rattle.grammar.proofs.Scans.{Run, goes-on, stops-at, ends-early, ends-well, goes-too-far}
 use Rattle.grammar.proofs.Repeats.{run-short, run-cut, part-up-to}
 use Rattle.octets.specs.Bytes.{digit?}
 use Rattle.octets.specs.Classes.{DIGIT}
-use Rattle.octets.specs.Runs.{run-end}
-use Rattle.octets.specs.Numbers.{grow, digits}
+use Rattle.octets.specs.helpers.Runs.{run-end}
+use Rattle.octets.specs.Numbers.{grow, number-after}
 use Rattle.octets.proofs.Bytes.{digit-low, digit-high}
 use Rattle.octets.proofs.Runs.{run-is}
 use Rattle.octets.proofs.Tables.{bits, digit-bits}
 use Rattle.qvalue.specs.Grammar.{Name, fraction, decimals, qvalue, rules}
-use Rattle.qvalue.specs.Scan.{whole-part, AfterWhole}
+use Rattle.qvalue.specs.helpers.Scan.{whole-part, AfterWhole}
 
 zero-digit : (b : ℕ) → eqb b 48 ≡ true → digit? b ≡ true
 unfolding digit?
@@ -50,7 +50,7 @@ padded-text (a ∷ []) = refl
 padded-text (a ∷ b ∷ t) = padded t
 
 -- four digits as thousandths
-four-digits : (w a b d : ℕ) → digits (grow 0 (48 + w)) (a ∷ b ∷ d ∷ []) ≡ w * 1000 + (a - 48) * 100 + (b - 48) * 10 + (d - 48)
+four-digits : (w a b d : ℕ) → number-after (grow 0 (48 + w)) (a ∷ b ∷ d ∷ []) ≡ w * 1000 + (a - 48) * 100 + (b - 48) * 10 + (d - 48)
 four-digits w a b d = ap (λ (n : ℕ). ((n * 10 + (a - 48)) * 10 + (b - 48)) * 10 + (d - 48)) first ∙ sums w (a - 48) (b - 48) (d - 48)
   where
     first : grow 0 (48 + w) ≡ w
@@ -73,7 +73,7 @@ module _ (s : List ℕ) (short : length s ≤ 8192) where
     zero-whole h = record {
       class = DIGIT;
       bits = digit-bits;
-      digits = λ b e. e;
+      number-after = λ b e. e;
       small = omega arith;
       some = at;
       reads = header-short rules s short ∙ goes-on rules s [] qvalue 0 (ahead (whole-part 0 ∷ []) (decimals DIGIT)) at (rw h) refl refl;
@@ -83,7 +83,7 @@ module _ (s : List ℕ) (short : length s ≤ 8192) where
     one-whole h = record {
       class = just 48 tt;
       bits = bits (0x1000000000000 ∷ 0 ∷ 0 ∷ 0 ∷ []) (λ b. eqb b 48) refl;
-      digits = zero-digit;
+      number-after = zero-digit;
       small = omega arith;
       some = at;
       reads = header-short rules s short ∙ goes-on rules s [] qvalue 0 (ahead (whole-part 1 ∷ []) (decimals (just 48 tt))) at (rw h) refl refl;
@@ -139,7 +139,7 @@ module _ (s : List ℕ) (w : ℕ) (words : List ℕ) (a : AfterWhole s w words) 
                 go : (x : Bool) → ltb k (length s) ≡ x → digit? (getD s k 48) ≡ true
                 go true f =
                     let l = ltb-true k (length s) f in
-                    ap digit? (sym (any-default s k l)) ∙ a .digits (getD s k 0) (run .inside k h (omega arith))
+                    ap digit? (sym (any-default s k l)) ∙ a .number-after (getD s k 0) (run .inside k h (omega arith))
                 go false f = ap digit? (List·getD-eq-default s 48 (ltb-false k (length s) f)) ∙ zero-digit 48 refl
 
             tail : slice s 2 e ++ [] ≡ drop 2 s
@@ -148,6 +148,6 @@ module _ (s : List ℕ) (w : ℕ) (words : List ℕ) (a : AfterWhole s w words) 
             pub decimals-read : header rules s ≡ value (w * 1000 + (getD s 2 48 - 48) * 100 + (getD s 3 48 - 48) * 10 + (getD s 4 48 - 48))
             decimals-read =
                 read-on ∙ ends-well rules s (cs ++ fraction-part e ∷ []) e all
-                ∙ ap (λ (t : List ℕ). value (digits (grow 0 (48 + w)) (take 3 (t ++ (48 ∷ 48 ∷ 48 ∷ []))))) tail
-                ∙ ap (λ (t : List ℕ). value (digits (grow 0 (48 + w)) t)) (padded-text s)
+                ∙ ap (λ (t : List ℕ). value (number-after (grow 0 (48 + w)) (take 3 (t ++ (48 ∷ 48 ∷ 48 ∷ []))))) tail
+                ∙ ap (λ (t : List ℕ). value (number-after (grow 0 (48 + w)) t)) (padded-text s)
                 ∙ ap value (four-digits w (getD s 2 48) (getD s 3 48) (getD s 4 48))

@@ -20,8 +20,8 @@ unfoldable pub qvalue-text : ℕ → List ℕ
 qvalue-text q = take (text-length q) (full-text q)
 
 -- the answer in a room, and the lent output afterwards
-abbrev pub written-qvalue : ℕ → ℕ → Verdict ℕ
-written-qvalue q room = writing (ltb largest q) (qvalue-text q) room
+abbrev pub qvalue-writing : ℕ → ℕ → Verdict ℕ
+qvalue-writing q room = writing (ltb largest q) (qvalue-text q) room
 
 abbrev pub qvalue-output : ℕ → List ℕ → List ℕ
-qvalue-output q old = output (written-qvalue q (length old)) (qvalue-text q) old
+qvalue-output q old = output (qvalue-writing q (length old)) (qvalue-text q) old

@@ -4,13 +4,13 @@ ghost use mathlib.Core.Bool.{true};
 ghost use mathlib.Core.List.{_++_};
 ghost use Prim.Native.Nat.{_+_, _-_, _%_, _≤_};
 ghost use lib.ListN.{length, drop, getD};
-ghost use Rattle.grammar.specs.Judge.{header};
+ghost use Rattle.grammar.specs.helpers.Judge.{header};
 ghost use Rattle.octets.specs.Bytes.{digit?};
 ghost use Rattle.octets.specs.Writing.{written};
 ghost use Rattle.qvalue.specs.Grammar.{rules};
 ghost use Rattle.qvalue.specs.Reading.{verdict};
-ghost use Rattle.qvalue.specs.Scan.{AfterWhole};
-ghost use Rattle.qvalue.specs.Writing.{qvalue-text, written-qvalue, qvalue-output};
+ghost use Rattle.qvalue.specs.helpers.Scan.{AfterWhole};
+ghost use Rattle.qvalue.specs.Writing.{qvalue-text, qvalue-writing, qvalue-output};
 use octets::Class;
 use octets::Refusal;
 use octets::Written;
@@ -51,7 +51,7 @@ pub fn read(s: &[u8]) -> Reading
 
 // Writes the shortest form at the front of `out`, and keeps the rest of `out`.
 pub fn write(thousandths: u16, out: &mut [u8]) -> Written
-    ensures answers { λ r. ⌜ written r ≡ written-qvalue thousandths (length (now (out .entry))) ⌝ }
+    ensures answers { λ r. ⌜ written r ≡ qvalue-writing thousandths (length (now (out .entry))) ⌝ }
     ensures writes { λ _. ⌜ now (out .exit) ≡ qvalue-output thousandths (now (out .entry)) ⌝ }
 {
     if thousandths > ONE {

@@ -12,16 +12,16 @@ use lib.Dec.{T, ltb, eqb}
 use lib.ListN.{length, getD, drop, drop-of-length-le}
 use lib.Seq.{drop-cons}
 use Rattle.grammar.specs.Grammar.{Class, Part, Grammar, void, empty, byte, _⨾_, _∣_, star, part, rest, nest, just, grown, T-left, T-right}
-use Rattle.grammar.specs.Derivative.{live, nullable, deriv, ends, then, seq, alt, during}
+use Rattle.grammar.specs.helpers.Derivative.{live, nullable, deriv, ends, then, seq, alt, during}
 use Rattle.grammar.specs.Reading.{Rules, refused}
-use Rattle.grammar.specs.Judge.{held}
-use Rattle.grammar.specs.Checks.{ahead}
-use Rattle.grammar.specs.Scans.{slice, from}
+use Rattle.grammar.specs.helpers.Judge.{held}
+use Rattle.grammar.specs.helpers.Checks.{ahead}
+use Rattle.grammar.specs.helpers.Scans.{slice, from}
 use Rattle.grammar.proofs.Shapes.{alt-void, seq-void, byte-step}
 use Rattle.grammar.proofs.Scans.{Follows, nothing, blank, solid, follows, dead-live, slice-none, slice-snoc, same-judge, part-begins, part-ends, part-goes-on, part-fails, part-cut-off, first-is, first-not, first-none}
 use Rattle.octets.specs.Bytes.{digit?}
 use Rattle.octets.specs.Classes.{DIGIT}
-use Rattle.octets.specs.Shapes.{fitting}
+use Rattle.octets.specs.helpers.Shapes.{fitting}
 
 module _ {L : Type 0} where
   during-alone : (p : Part L) (g : Grammar L) → seq (during p g) empty ≡ during p g

@@ -11,17 +11,17 @@ use lib.ListN.{length, getD, drop, length-drop, drop-of-length-le}
 use lib.Seq.{drop-cons, drop-drop}
 use borrow.Author.Tests.{ltb-true, ltb-false, eqb-true, eq-eqb, ne-eqb}
 use Rattle.grammar.specs.Grammar.{Class, Part, Grammar, void, empty, byte, _⨾_, _∣_, star, part, rest, nest, grown}
-use Rattle.grammar.specs.Derivative.{live, deriv, ends, then, seq, during}
+use Rattle.grammar.specs.helpers.Derivative.{live, deriv, ends, then, seq, during}
 use Rattle.grammar.specs.Reading.{Rules, refused}
-use Rattle.grammar.specs.Judge.{held}
-use Rattle.grammar.specs.Checks.{ahead}
-use Rattle.grammar.specs.Scans.{slice, from}
+use Rattle.grammar.specs.helpers.Judge.{held}
+use Rattle.grammar.specs.helpers.Checks.{ahead}
+use Rattle.grammar.specs.helpers.Scans.{slice, from}
 use Rattle.grammar.proofs.Shapes.{byte-step}
 use Rattle.grammar.proofs.Scans.{then-byte, slice-none, slice-snoc, then-live, then-held, part-begins, part-goes-on, part-ends, part-fails, part-cut-off, byte-is, byte-not, byte-none}
 use Rattle.octets.specs.Bytes.{text?, escaped?}
 use Rattle.octets.specs.Classes.{ESCAPED}
-use Rattle.octets.specs.Runs.{run, run-end}
-use Rattle.octets.specs.Quoted.{QUOTE, quoted-text, quoted, quoted-end}
+use Rattle.octets.specs.helpers.Runs.{run, run-end}
+use Rattle.octets.specs.Quoted.{QUOTE, quoted-text, quoted-length, quoted-end}
 use Rattle.octets.proofs.Bytes.{told-apart}
 use Rattle.octets.proofs.Quoted.{quote-no-text, backslash-no-text, quote-escaped, at-end, text-next, pair-next, neither-next, escaped-next, not-escaped}
 
@@ -135,39 +135,39 @@ module _ {L A : Type 0} (r : Rules L A) (s : List ℕ) (cs : List (Part L)) (k :
   cut-off false j a b = ended j a (λ at. absurd (omega arith))
 
   abbrev Next : ℕ → Type 0
-  Next j = (p : Bool) → Stops p (j + 1) ((j + 1) + quoted p (drop (j + 1) s))
+  Next j = (p : Bool) → Stops p (j + 1) ((j + 1) + quoted-length p (drop (j + 1) s))
 
-  scan : (m j : ℕ) (pair : Bool) → length s ≤ j + m → i ≤ j → Stops pair j (j + quoted pair (drop j s))
-  scan zero j pair a b = stays pair j (quoted pair (drop j s)) (at-end s j pair (omega arith)) (cut-off pair j b (omega arith))
+  scan : (m j : ℕ) (pair : Bool) → length s ≤ j + m → i ≤ j → Stops pair j (j + quoted-length pair (drop j s))
+  scan zero j pair a b = stays pair j (quoted-length pair (drop j s)) (at-end s j pair (omega arith)) (cut-off pair j b (omega arith))
   scan (suc m) j pair a b = go (ltb j (length s)) refl (λ p. scan m (j + 1) p (omega arith) (omega arith))
     where
-      text-case : j < length s → Next j → (x : Bool) → text? (getD s j 0) ≡ x → Stops false j (j + quoted false (drop j s))
+      text-case : j < length s → Next j → (x : Bool) → text? (getD s j 0) ≡ x → Stops false j (j + quoted-length false (drop j s))
       text-case at w true e =
-          moves false false j (quoted false (drop j s)) (quoted false (drop (j + 1) s)) (text-next s j at e)
+          moves false false j (quoted-length false (drop j s)) (quoted-length false (drop (j + 1) s)) (text-next s j at e)
           (takes false false j b at (left-text L j (getD s j 0) e) (λ z. told-apart text? (getD s j 0) 34 e quote-no-text)) (w false)
       text-case at w false e = pair-case (eqb (getD s j 0) 92) refl
         where
-          pair-case : (y : Bool) → eqb (getD s j 0) 92 ≡ y → Stops false j (j + quoted false (drop j s))
+          pair-case : (y : Bool) → eqb (getD s j 0) 92 ≡ y → Stops false j (j + quoted-length false (drop j s))
           pair-case true f =
-              moves false true j (quoted false (drop j s)) (quoted true (drop (j + 1) s)) (pair-next s j at e f)
+              moves false true j (quoted-length false (drop j s)) (quoted-length true (drop (j + 1) s)) (pair-next s j at e f)
               (takes false true j b at (left-pair L j (getD s j 0) e f) (λ z. ap (λ (x : ℕ). eqb x 34) (eqb-true (getD s j 0) 92 f))) (w true)
-          pair-case false f = stays false j (quoted false (drop j s)) (neither-next s j at e f) (ended j b (λ z. left-neither L j (getD s j 0) e f))
+          pair-case false f = stays false j (quoted-length false (drop j s)) (neither-next s j at e f) (ended j b (λ z. left-neither L j (getD s j 0) e f))
 
-      escaped-case : j < length s → Next j → (x : Bool) → escaped? (getD s j 0) ≡ x → Stops true j (j + quoted true (drop j s))
+      escaped-case : j < length s → Next j → (x : Bool) → escaped? (getD s j 0) ≡ x → Stops true j (j + quoted-length true (drop j s))
       escaped-case at w true e =
-          moves true false j (quoted true (drop j s)) (quoted false (drop (j + 1) s)) (escaped-next s j at e)
+          moves true false j (quoted-length true (drop j s)) (quoted-length false (drop (j + 1) s)) (escaped-next s j at e)
           (takes true false j b at (left-escaped L j (getD s j 0) e) (λ z. absurd (true≢false z))) (w false)
-      escaped-case at w false e = stays true j (quoted true (drop j s)) (not-escaped s j at e) (bad-pair j at e)
+      escaped-case at w false e = stays true j (quoted-length true (drop j s)) (not-escaped s j at e) (bad-pair j at e)
 
-      by : (p : Bool) → j < length s → Next j → Stops p j (j + quoted p (drop j s))
+      by : (p : Bool) → j < length s → Next j → Stops p j (j + quoted-length p (drop j s))
       by true at w = escaped-case at w (escaped? (getD s j 0)) refl
       by false at w = text-case at w (text? (getD s j 0)) refl
 
-      go : (x : Bool) → ltb j (length s) ≡ x → Next j → Stops pair j (j + quoted pair (drop j s))
+      go : (x : Bool) → ltb j (length s) ≡ x → Next j → Stops pair j (j + quoted-length pair (drop j s))
       go true e w = by pair (ltb-true j (length s) e) w
       go false e w =
           let z = ltb-false j (length s) e in
-          stays pair j (quoted pair (drop j s)) (at-end s j pair z) (cut-off pair j b z)
+          stays pair j (quoted-length pair (drop j s)) (at-end s j pair z) (cut-off pair j b z)
 
   begun : from r s (ahead cs (then (part k quoted-text) (then (byte QUOTE) g))) i ≡ from r s (in-quotes false i) i
   begun =

@@ -14,18 +14,18 @@ use types.Run.{OneOf, miss}
 use Rattle.octets.proofs.Decimal.{the-type}
 use borrow.Author.Tests.{ltb-true, ltb-false, eqb-true, eqb-false}
 use Rattle.grammar.specs.Grammar.{Class, Part, Grammar, byte, _⨾_, part, plus, spell, fold, bytes?, lower, T-left, T-right, void}
-use Rattle.grammar.specs.Derivative.{live, deriv, then}
+use Rattle.grammar.specs.helpers.Derivative.{live, deriv, then}
 use Rattle.grammar.specs.Reading.{above, Rules, refused}
-use Rattle.grammar.specs.Judge.{held}
-use Rattle.grammar.specs.Checks.{ahead}
-use Rattle.grammar.specs.Scans.{slice, from}
+use Rattle.grammar.specs.helpers.Judge.{held}
+use Rattle.grammar.specs.helpers.Checks.{ahead}
+use Rattle.grammar.specs.helpers.Scans.{slice, from}
 use Rattle.grammar.proofs.Scans.{Run, part-plus, part-plus-none, part-plus-breaks, first-is, first-not, first-none}
 use Rattle.octets.specs.declared.Decimal.{Decimal}
 use Rattle.octets.specs.declared.Decimal.the-variants.{Number, Above, Missing}
 use Rattle.octets.specs.Bytes.{digit?}
 use Rattle.octets.specs.Classes.{DIGIT}
-use Rattle.octets.specs.Runs.{run, run-end}
-use Rattle.octets.specs.Numbers.{grow, digits, number, later, passing, decimal-of, decimal-at, above?, number-limit}
+use Rattle.octets.specs.helpers.Runs.{run, run-end}
+use Rattle.octets.specs.Numbers.{grow, number-after, number, later, passing, decimal-of, decimal-at, above?, number-limit}
 use Rattle.octets.specs.Case.{agreeing}
 use Rattle.octets.proofs.Runs.{run-is}
 
@@ -53,7 +53,7 @@ run-front p (b ∷ t) m h = go (p b) m h (run-front p t)
 -- ## Decimal numbers
 
 -- no digit passes the limit: no beginning of the number is above it
-passing-none : (limit n : ℕ) (t : List ℕ) → passing limit n t ≡ none → (m : ℕ) → m < length t → ltb limit (digits n (take (suc m) t)) ≡ false
+passing-none : (limit n : ℕ) (t : List ℕ) → passing limit n t ≡ none → (m : ℕ) → m < length t → ltb limit (number-after n (take (suc m) t)) ≡ false
 passing-none limit n [] e m h = absurd (omega arith)
 passing-none limit n (b ∷ t) e m h = go (ltb limit (grow n b)) refl e m h (passing-none limit (grow n b) t)
   where
@@ -62,8 +62,8 @@ passing-none limit n (b ∷ t) e m h = go (ltb limit (grow n b)) refl e m h (pas
     unlater (some k) f = let z : _≡_ {A = ℕ} 0 1 = cc in absurd (omega arith)
 
     go : (x : Bool) → ltb limit (grow n b) ≡ x → cond x (some 0) (later (passing limit (grow n b) t)) ≡ none → (k : ℕ) → k < suc (length t)
-        → (passing limit (grow n b) t ≡ none → (j : ℕ) → j < length t → ltb limit (digits (grow n b) (take (suc j) t)) ≡ false)
-        → ltb limit (digits n (take (suc k) (b ∷ t))) ≡ false
+        → (passing limit (grow n b) t ≡ none → (j : ℕ) → j < length t → ltb limit (number-after (grow n b) (take (suc j) t)) ≡ false)
+        → ltb limit (number-after n (take (suc k) (b ∷ t))) ≡ false
     go true f d k a r = let z : _≡_ {A = ℕ} 0 1 = cc in absurd (omega arith)
     go false f d zero a r = f
     go false f d (suc k) a r = r (unlater (passing limit (grow n b) t) d) k (omega arith)
@@ -71,13 +71,13 @@ passing-none limit n (b ∷ t) e m h = go (ltb limit (grow n b)) refl e m h (pas
 -- the first digit that passes the limit
 pub record Passes (limit n : ℕ) (t : List ℕ) (q : ℕ) : Type 0 where
   pub within : q < length t
-  pub passes : ltb limit (digits n (take (suc q) t)) ≡ true
-  pub before : (m : ℕ) → m < q → ltb limit (digits n (take (suc m) t)) ≡ false
+  pub passes : ltb limit (number-after n (take (suc q) t)) ≡ true
+  pub before : (m : ℕ) → m < q → ltb limit (number-after n (take (suc m) t)) ≡ false
 
 passing-later : (limit n b : ℕ) (t : List ℕ) (k : ℕ) → ltb limit (grow n b) ≡ false → Passes limit (grow n b) t k → Passes limit n (b ∷ t) (suc k)
 passing-later limit n b t k f w = record { within = omega (arith, w .within); passes = w .passes; before = early }
   where
-    early : (m : ℕ) → m < suc k → ltb limit (digits n (take (suc m) (b ∷ t))) ≡ false
+    early : (m : ℕ) → m < suc k → ltb limit (number-after n (take (suc m) (b ∷ t))) ≡ false
     early zero a = f
     early (suc m) a = w .before m (omega arith)
 

@@ -8,13 +8,13 @@ use mathlib.Core.List.{List, _∷_, _++_}
 use Rattle.grammar.specs.Grammar.{Part, Parses}
 use Rattle.grammar.specs.Comparing.{compare, outcome, refused-at}
 use Rattle.grammar.specs.Reading.{Verdict, value, refused, Answers}
-use Rattle.grammar.specs.Judge.{header}
+use Rattle.grammar.specs.helpers.Judge.{header}
 use Rattle.grammar.proofs.Demands.{answered-exactly}
 use Rattle.url.specs.declared.Url.{Url}
 use Rattle.url.specs.Bytes.{PATH, QUERY}
 use Rattle.url.specs.Grammar.{Name, text-of, rules}
 use Rattle.url.specs.Meaning.{escaped-byte, unneeded?, resolved, Page, pages, same-page}
-use Rattle.url.specs.Places.{page-in, Placed}
+use Rattle.url.specs.helpers.Places.{page-in, Placed}
 use Rattle.url.proofs.Meaning.{one-way, means}
 use Rattle.url.proofs.Pages.{one-page}
 use Rattle.url.proofs.Escapes.{escape-behind}

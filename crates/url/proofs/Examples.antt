@@ -8,7 +8,7 @@ use Rattle.grammar.specs.Grammar.{lower}
 use Rattle.grammar.specs.Comparing.{Comparison, outcome, refused-at, compare}
 use Rattle.grammar.specs.Text.{bytes}
 use Rattle.grammar.specs.Reading.{Verdict, value, refused}
-use Rattle.grammar.specs.Judge.{header}
+use Rattle.grammar.specs.helpers.Judge.{header}
 use Rattle.octets.specs.Bytes.{digit?, letter?, hex?}
 use Rattle.url.specs.declared.Url.{Url}
 use Rattle.url.specs.declared.Place.the-variants.{Absent, At}

@@ -14,7 +14,7 @@ use Rattle.octets.proofs.Spans.{span}
 use Rattle.octets.specs.Same.{same?}
 use Rattle.url.specs.Bytes.{unreserved?}
 use Rattle.url.specs.Meaning.{escaped-byte, unneeded?, resolved}
-use Rattle.url.specs.Places.{Resolves}
+use Rattle.url.specs.helpers.Places.{Resolves}
 
 -- a byte that begins no escape, and one that is not needed
 pub plain-first : (a : ℕ) (t : List ℕ) → (a ≡ 37 → ⊥) → resolved (a ∷ t) ≡ a ∷ resolved t

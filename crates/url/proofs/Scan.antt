@@ -9,18 +9,18 @@ use mathlib.Core.Option.{Option, none, some}
 use lib.Dec.{ltb, eqb}
 use lib.ListN.{length, getD, drop, take, length-take, length-drop}
 use Rattle.grammar.specs.Grammar.{Part, Grammar, void, empty, byte, _⨾_, star, part, rest, plus}
-use Rattle.grammar.specs.Derivative.{deriv}
+use Rattle.grammar.specs.helpers.Derivative.{deriv}
 use Rattle.grammar.specs.Reading.{above, value, refused}
-use Rattle.grammar.specs.Checks.{ahead}
-use Rattle.grammar.specs.Judge.{header}
-use Rattle.grammar.specs.Scans.{slice, from}
+use Rattle.grammar.specs.helpers.Checks.{ahead}
+use Rattle.grammar.specs.helpers.Judge.{header}
+use Rattle.grammar.specs.helpers.Scans.{slice, from}
 use Rattle.grammar.proofs.Loop.{header-short}
 use Rattle.grammar.proofs.Scans.{Run, slice-none, slice-snoc, same-judge, goes-on, stops-at, part-begins, part-plus, part-plus-none, part-star, part-star-breaks, ends-well, goes-too-far}
 use Rattle.octets.specs.declared.Decimal.the-variants.{Number, Above, Missing}
 use Rattle.octets.specs.Bytes.{digit?, letter?}
 use Rattle.octets.specs.Classes.{DIGIT}
 use Rattle.octets.specs.Case.{agreeing}
-use Rattle.octets.specs.Runs.{run-end}
+use Rattle.octets.specs.helpers.Runs.{run-end}
 use Rattle.octets.specs.Numbers.{number, decimal-at, above?}
 use Rattle.octets.proofs.Bytes.{told-apart}
 use Rattle.octets.proofs.Runs.{run-is}
@@ -31,7 +31,7 @@ use Rattle.url.specs.declared.Ending.the-variants.{Ends, Breaks}
 use Rattle.url.specs.Bytes.{HOST, PATH, QUERY, host?, unreserved?, path?, query?}
 use Rattle.url.specs.Grammar as G
 use Rattle.url.specs.Grammar.{Name, host, port, path, query, text-of, query-part, path-part, port-part, host-part, scheme, is-port, is-path, is-query, named, port-text, place, largest-port, rules}
-use Rattle.url.specs.Scan.{Found, host-at, AfterHost, heads, port-read, BeforePath, path-at, BeforeQuery}
+use Rattle.url.specs.helpers.Scan.{Found, host-at, AfterHost, heads, port-read, BeforePath, path-at, BeforeQuery}
 use Rattle.url.proofs.Text.{stretch-up, text-ends, text-breaks}
 
 -- ## Bytes apart

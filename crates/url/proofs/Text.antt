@@ -9,17 +9,17 @@ use mathlib.Core.Option.{none}
 use lib.Dec.{ltb, eqb}
 use lib.ListN.{length, getD}
 use Rattle.grammar.specs.Grammar.{Class, Part, Grammar, void, empty, byte, _⨾_, star, part, rest, grown}
-use Rattle.grammar.specs.Derivative.{live, deriv, ends, then, seq, during}
+use Rattle.grammar.specs.helpers.Derivative.{live, deriv, ends, then, seq, during}
 use Rattle.grammar.specs.Reading.{Rules, Verdict, refused}
-use Rattle.grammar.specs.Judge.{held}
-use Rattle.grammar.specs.Checks.{ahead}
-use Rattle.grammar.specs.Scans.{slice, from}
+use Rattle.grammar.specs.helpers.Judge.{held}
+use Rattle.grammar.specs.helpers.Checks.{ahead}
+use Rattle.grammar.specs.helpers.Scans.{slice, from}
 use Rattle.grammar.proofs.Scans.{slice-snoc, part-goes-on, part-ends, part-fails, part-cut-off}
 use Rattle.octets.specs.Bytes.{hex?}
 use Rattle.octets.specs.Classes.{HEX}
 use Rattle.url.specs.declared.Ending.the-variants.{Ends, Breaks}
 use Rattle.url.specs.Grammar.{Name, text-of}
-use Rattle.url.specs.Scan.{Hexes, Stretch, empty as nothing, plain, escape as escaped, Found}
+use Rattle.url.specs.helpers.Scan.{Hexes, Stretch, empty as nothing, plain, escape as escaped, Found}
 
 -- what is left inside an escape
 abbrev one-digit : Class → Grammar Name

@@ -2,5 +2,4 @@ pub mod Bytes
 pub mod Grammar
 pub mod Meaning
 pub mod Reading
-pub mod Scan
-pub mod Places
+pub mod helpers

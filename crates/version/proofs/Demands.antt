@@ -11,7 +11,7 @@ use lib.ListN.{length, getD, length-append}
 use lib.Seq.{getD-at}
 use Rattle.grammar.specs.Grammar.{lower}
 use Rattle.grammar.specs.Reading.{Verdict, value, refused, Answers}
-use Rattle.grammar.specs.Judge.{header}
+use Rattle.grammar.specs.helpers.Judge.{header}
 use Rattle.grammar.proofs.Deterministic.{deterministic?}
 use Rattle.grammar.proofs.Demands.{answered-exactly}
 use Rattle.octets.specs.declared.Decimal.the-variants.{Number}

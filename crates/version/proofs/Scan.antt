@@ -9,11 +9,11 @@ use mathlib.Core.Option.{none, some}
 use lib.Dec.{ltb, eqb}
 use lib.ListN.{length, getD, drop}
 use Rattle.grammar.specs.Grammar.{Part, Grammar, void, empty, byte, part, plus, just, lower}
-use Rattle.grammar.specs.Derivative.{deriv, then}
+use Rattle.grammar.specs.helpers.Derivative.{deriv, then}
 use Rattle.grammar.specs.Reading.{above, Verdict, value, refused}
-use Rattle.grammar.specs.Checks.{ahead}
-use Rattle.grammar.specs.Judge.{header}
-use Rattle.grammar.specs.Scans.{slice, from}
+use Rattle.grammar.specs.helpers.Checks.{ahead}
+use Rattle.grammar.specs.helpers.Judge.{header}
+use Rattle.grammar.specs.helpers.Scans.{slice, from}
 use Rattle.grammar.proofs.Shapes.{byte-step}
 use Rattle.grammar.proofs.Loop.{header-short}
 use Rattle.grammar.proofs.Scans.{Run, first-is, first-not, first-none, ends-well, goes-too-far}
@@ -27,7 +27,7 @@ use Rattle.octets.proofs.Runs.{run-is}
 use Rattle.scans.proofs.Scans.{number-of, number-fits, number-reads, number-missing, number-passes, number-limits, word-reads}
 use Rattle.scans.proofs.Words.{word-whole, word-inside}
 use Rattle.version.specs.Grammar.{Name, major, minor, http, numbers, version, largest, rules}
-use Rattle.version.specs.Scan.{point-and-minor, major-part, AfterMajor}
+use Rattle.version.specs.helpers.Scan.{point-and-minor, major-part, AfterMajor}
 
 -- no digit begins what follows the major number
 point-apart : (j b : ℕ) → digit? b ≡ true → deriv point-and-minor j b ≡ void

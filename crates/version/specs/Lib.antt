@@ -1,4 +1,4 @@
 pub mod Grammar
 pub mod Reading
 pub mod Writing
-pub mod Scan
+pub mod helpers

@@ -20,5 +20,5 @@ too-large v = ltb largest (v .major) || ltb largest (v .minor)
 abbrev pub version-writing : Version → ℕ → Verdict ℕ
 version-writing v room = writing (too-large v) (version-text v) room
 
-abbrev pub written-output : Version → List ℕ → List ℕ
-written-output v old = output (version-writing v (length old)) (version-text v) old
+abbrev pub version-output : Version → List ℕ → List ℕ
+version-output v old = output (version-writing v (length old)) (version-text v) old

@@ -5,11 +5,11 @@ ghost use mathlib.Core.List.{_++_};
 ghost use Prim.Native.Nat.{_≤_};
 ghost use lib.ListN.{length, drop};
 ghost use Rattle.grammar.specs.Comparing.{compare as comparing};
-ghost use Rattle.grammar.specs.Judge.{header};
+ghost use Rattle.grammar.specs.helpers.Judge.{header};
 ghost use Rattle.version.specs.Grammar.{rules};
 ghost use Rattle.version.specs.Reading.{verdict, comparison, precedence};
-ghost use Rattle.version.specs.Scan.{AfterMajor};
-ghost use Rattle.version.specs.Writing.{version-text, too-large, version-writing, written-output};
+ghost use Rattle.version.specs.helpers.Scan.{AfterMajor};
+ghost use Rattle.version.specs.Writing.{version-text, too-large, version-writing, version-output};
 ghost use Rattle.octets.specs.Writing.{written};
 use octets::Decimal;
 use octets::Refusal;
@@ -89,7 +89,7 @@ impl Version {
     // Writes the version at the front of `out`, in capitals and without leading zeros, and keeps the rest of `out`.
     pub fn write(self, out: &mut [u8]) -> Written
         ensures answers { λ r. ⌜ written r ≡ version-writing self (length (now (out .entry))) ⌝ }
-        ensures writes { λ _. ⌜ now (out .exit) ≡ written-output self (now (out .entry)) ⌝ }
+        ensures writes { λ _. ⌜ now (out .exit) ≡ version-output self (now (out .entry)) ⌝ }
     {
         if self.major as u64 > NUMBER_LIMIT {
             return unwritten(9);

@@ -3,7 +3,7 @@ use native.Mathlib.Omega.{arith}
 use borrow.Author.Needs.{needs}
 use mathlib.Core.Path.{subst}
 use Prim.Native.Nat.{ℕ}
-use Rattle.chunked.specs.Passes.{LineRead}
+use Rattle.chunked.specs.helpers.Passes.{LineRead}
 use Rattle.chunked.proofs.Passes.{at-more, last-more, last-refused}
 use Rattle.chunked.proofs.Chunks.{cr-refused, cr-on, lf-refused, data-on, data-more, chunk-read}
 use Rattle.chunked.proofs.chunk.Statement.{statement}

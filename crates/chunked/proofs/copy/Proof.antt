@@ -4,7 +4,7 @@ use borrow.Author.Needs.{needs}
 use mathlib.Core.Path.{subst, sym, _∙_}
 use Prim.Native.Nat.{ℕ, _+_, _-_}
 use lib.ListN.{length}
-use Rattle.chunked.specs.Passes.{Copied, Known, ChunkRead}
+use Rattle.chunked.specs.helpers.Passes.{Copied, Known, ChunkRead}
 use Rattle.chunked.proofs.Passes.{first-fits}
 use Rattle.chunked.proofs.Runs.{part-length}
 use Rattle.chunked.proofs.Chunks.{none-known, chunk-known}

@@ -6,7 +6,7 @@ use Prim.Native.Nat.{ℕ, _-_}
 use lib.ListN.{length}
 use Rattle.framing.specs.declared.LinePos.the-variants.{First}
 use Rattle.framing.specs.declared.State.the-variants.{Line}
-use Rattle.chunked.specs.Passes.{At, Known, ChunkRead}
+use Rattle.chunked.specs.helpers.Passes.{At, Known, ChunkRead}
 use Rattle.chunked.proofs.Passes.{at-start, first-fits}
 use Rattle.chunked.proofs.Chunks.{none-known, chunk-known, chunk-on, read-chunk-on}
 use Rattle.chunked.proofs.decide.Statement.{statement}

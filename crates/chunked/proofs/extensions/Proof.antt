@@ -5,7 +5,7 @@ use borrow.Author.Tests.{not-true, not-false}
 use mathlib.Core.Path.{sym, _∙_, ap}
 use Prim.Native.Nat.{_-_}
 use lib.ListN.{length}
-use Rattle.framing.specs.Machine.{extLive}
+use Rattle.framing.specs.helpers.Machine.{extLive}
 use Rattle.chunked.proofs.Passes.{at-more, last-more, last-refused}
 use Rattle.chunked.proofs.Lines.{InExt, ext-start, ext-ended, ext-line, ext-unended, ext-wrong, ext-long, ext-on}
 use Rattle.chunked.proofs.extensions.Statement.{statement}

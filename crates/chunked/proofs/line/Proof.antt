@@ -1,7 +1,7 @@
 -- `chunked::line` meets its contract: its two parts, one after the other.
 use borrow.Author.Needs.{needs}
 use mathlib.Core.Path.{subst}
-use Rattle.chunked.specs.Passes.{SizeRead}
+use Rattle.chunked.specs.helpers.Passes.{SizeRead}
 use Rattle.chunked.proofs.line.Statement.{statement}
 use Rattle.chunked.proofs.line.Tie as tie
 

@@ -5,9 +5,9 @@ use Prim.Native.Nat.{_-_, _≤_}
 use mathlib.Core.Path.{sym, _∙_, ap}
 use borrow.Author.Tests.{not-true, not-false}
 use lib.ListN.{length}
-use Rattle.framing.specs.Machine.{trailLive}
+use Rattle.framing.specs.helpers.Machine.{trailLive}
 use Rattle.framing.specs.declared.State.the-variants.{Trail}
-use Rattle.chunked.specs.Passes.{At}
+use Rattle.chunked.specs.helpers.Passes.{At}
 use Rattle.chunked.proofs.Passes.{at-more, last-more, last-refused}
 use Rattle.chunked.proofs.Lines.{trail-start, trail-closed, trail-wrong, trail-long, trail-on}
 use Rattle.chunked.proofs.trailer.Statement.{statement}

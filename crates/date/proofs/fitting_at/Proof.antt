@@ -5,7 +5,7 @@ use borrow.Author.Needs.{needs}
 use borrow.Author.Tests.{not-true, not-false}
 use mathlib.Core.Path.{_≡_, refl, sym, _∙_}
 use lib.ListN.{length, drop, getD}
-use Rattle.octets.specs.Shapes.{stands-for, fitting}
+use Rattle.octets.specs.helpers.Shapes.{stands-for, fitting}
 use Rattle.date.proofs.Tables.{fit-shape-out, fit-text-out, fit-differs, fit-next}
 use Rattle.date.proofs.fitting_at.Statement.{statement}
 use Rattle.date.proofs.fitting_at.Tie as tie

@@ -4,8 +4,8 @@ use native.Mathlib.Omega.{arith}
 use borrow.Author.Needs.{needs}
 use mathlib.Core.Path.{_≡_, refl, sym, _∙_}
 use lib.ListN.{length, drop}
-use Rattle.grammar.specs.Words.{larger}
-use Rattle.date.specs.Shapes.{longest}
+use Rattle.grammar.specs.helpers.Words.{larger}
+use Rattle.date.specs.helpers.Shapes.{longest}
 use Rattle.date.proofs.Tables.{larger-left, larger-right, longest-end, longest-on}
 use Rattle.date.proofs.longest_at.Statement.{statement}
 use Rattle.date.proofs.longest_at.Tie as tie

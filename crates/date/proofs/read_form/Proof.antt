@@ -2,7 +2,7 @@
 use native.Mathlib.Omega.{arith}
 use borrow.Author.Needs.{needs}
 use mathlib.Core.Path.{sym, ap, _∙_}
-use Rattle.date.specs.Scan.{dashed-head}
+use Rattle.date.specs.helpers.Scan.{dashed-head}
 use Rattle.date.proofs.Scan.{goes-fixed, goes-plain, goes-long, other-heads}
 use Rattle.date.proofs.read_form.Statement.{statement}
 use Rattle.date.proofs.read_form.Tie as tie

@@ -6,7 +6,7 @@ use lib.ListN.{length}
 use Prim.Native.Nat.{_+_, _≤_}
 use Rattle.date.specs.declared.Tail.the-variants.{Month}
 use Rattle.date.specs.Reading.{verdict}
-use Rattle.date.specs.Scan.{month-then}
+use Rattle.date.specs.helpers.Scan.{month-then}
 use Rattle.date.proofs.Scan.{fields-read}
 use Rattle.date.proofs.read_tail.Statement.{statement}
 use Rattle.date.proofs.read_tail.Tie as tie

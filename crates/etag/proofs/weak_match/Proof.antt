@@ -2,7 +2,7 @@
 use borrow.Author.Needs.{needs}
 use mathlib.Core.Path.{sym, ap, ap₂, _∙_}
 use Rattle.grammar.specs.Comparing.{compare, outcome}
-use Rattle.grammar.specs.Judge.{header}
+use Rattle.grammar.specs.helpers.Judge.{header}
 use Rattle.etag.specs.Grammar.{rules}
 use Rattle.etag.specs.Reading.{verdict, weakly}
 use Rattle.etag.proofs.Within.{within}

@@ -4,7 +4,7 @@ use mathlib.Core.Path.{ap, _∙_}
 use lib.IntN.{ℤ}
 use lib.ListN.{length}
 use mir.Facts.{toZ-ofZ}
-use Rattle.date.specs.Writing.{date-writing, written-output}
+use Rattle.date.specs.Writing.{date-writing, date-output}
 use Rattle.host.specs.Fields.{written-fields}
 use Rattle.host.proofs.qz_date_write.Statement.{statement}
 use Rattle.host.proofs.qz_date_write.Tie as tie
@@ -16,7 +16,7 @@ returns c =
     let x = c .before .before .before .before .before .before in
     let same = toZ-ofZ (x .fits .seconds) in (
       c .written-fields .ensures ∙ ap written-fields (w .ensures .0 ∙ ap (λ (z : ℤ). date-writing z (length (x .args .out .now))) same),
-      w .ensures .1 ∙ ap (λ (z : ℤ). written-output z (x .args .out .now)) same,
+      w .ensures .1 ∙ ap (λ (z : ℤ). date-output z (x .args .out .now)) same,
     )
 
 pub qz-date-write-spec : {M : Type 1} → statement M

@@ -4,7 +4,7 @@ use mathlib.Core.Path.{_≡_, sym, ap, _∙_}
 use mathlib.Core.List.{List, map}
 use Prim.Native.Nat.{ℕ}
 use Rattle.grammar.specs.Reading.{Verdict}
-use Rattle.grammar.specs.Judge.{header}
+use Rattle.grammar.specs.helpers.Judge.{header}
 use Rattle.media.specs.declared.Outcome.{Outcome}
 use Rattle.media.specs.declared.Reading.{Reading}
 use Rattle.media.specs.Grammar.{Media, rules}

@@ -7,7 +7,7 @@ use denote.Enum.Declared.{tagOf}
 use types.Run.{OneOf, miss}
 use Rattle.grammar.specs.Reading.{value}
 use Rattle.grammar.specs.Comparing.{compare, outcome}
-use Rattle.grammar.specs.Judge.{header}
+use Rattle.grammar.specs.helpers.Judge.{header}
 use Rattle.grammar.proofs.Comparing.{compare-read}
 use Rattle.octets.specs.Case.{alike}
 use Rattle.language.specs.declared.Tag.{Tag}

@@ -8,7 +8,7 @@ use Rattle.grammar.specs.Reading.{refused}
 use Rattle.grammar.proofs.Loop.{header-long}
 use Rattle.language.specs.Grammar.{rules}
 use Rattle.language.specs.Reading.{verdict}
-use Rattle.language.specs.Scan.{Behind}
+use Rattle.language.specs.helpers.Scan.{Behind}
 use Rattle.language.proofs.Scan.{part-short, primary-none, primary-reads, tag-reads, hyphen-not, subtag-none, subtag-reads}
 use Rattle.language.proofs.read.Statement.{statement}
 use Rattle.language.proofs.read.Tie as tie

@@ -5,7 +5,7 @@ use Prim.Native.Nat.{ℕ, _+_, _-_, _*_}
 use native.Mathlib.Omega.{arith}
 use borrow.Author.Needs.{needs}
 use Rattle.text.proofs.Placing.{Front, front-length, front-on, front-all}
-use Rattle.lines.specs.Pairs.{pairs}
+use Rattle.lines.specs.helpers.Pairs.{pairs}
 use Rattle.lines.proofs.Hexes.{digit-below, pair-is, pairs-length}
 use Rattle.lines.proofs.put_pairs.Statement.{statement}
 use Rattle.lines.proofs.put_pairs.Tie as tie

@@ -6,7 +6,7 @@ use borrow.Author.Tests.{not-true, not-false}
 use mathlib.Core.Path.{_≡_, refl, _∙_}
 use lib.ListN.{take, drop}
 use Rattle.media.specs.Meaning.{all-of}
-use Rattle.media.specs.Places.{settings-at}
+use Rattle.media.specs.helpers.Places.{settings-at}
 use Rattle.media.proofs.Tables.{entry-below, all-passed, entry-placed, missing-here, present-here}
 use Rattle.media.proofs.all_among.Statement.{statement}
 use Rattle.media.proofs.all_among.Tie as tie

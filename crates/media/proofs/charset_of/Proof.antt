@@ -6,7 +6,7 @@ use mathlib.Core.Path.{_≡_, refl, ap, _∙_}
 use lib.ListN.{take, drop}
 use Rattle.grammar.specs.Reading.{value}
 use Rattle.media.specs.Charset.{default-charset}
-use Rattle.media.specs.Places.{part-at, stated-at, effective-at}
+use Rattle.media.specs.helpers.Places.{part-at, stated-at, effective-at}
 use Rattle.media.proofs.Tables.{entry-below, entry-placed, not-stated, stated-here, stated-behind, text-default, other-default}
 use Rattle.media.proofs.charset_of.Statement.{statement}
 use Rattle.media.proofs.charset_of.Tie as tie

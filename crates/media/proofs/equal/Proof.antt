@@ -2,7 +2,7 @@
 use borrow.Author.Needs.{needs}
 use mathlib.Core.Path.{sym, ap}
 use Rattle.grammar.specs.Comparing.{compare}
-use Rattle.grammar.specs.Judge.{header}
+use Rattle.grammar.specs.helpers.Judge.{header}
 use Rattle.media.specs.Meaning.{meanings, same-meaning}
 use Rattle.media.proofs.Places.{read-placed, read-means, refused-alike}
 use Rattle.media.proofs.equal.Statement.{statement}

@@ -5,7 +5,7 @@ use borrow.Author.Needs.{needs}
 use mathlib.Core.Path.{_≡_, refl, _∙_}
 use lib.ListN.{take, drop}
 use Rattle.media.specs.Meaning.{one-of}
-use Rattle.media.specs.Places.{setting-at, settings-at}
+use Rattle.media.specs.helpers.Places.{setting-at, settings-at}
 use Rattle.media.proofs.Tables.{entry-below, none-among, entry-placed, found-here, not-here}
 use Rattle.media.proofs.is_among.Statement.{statement}
 use Rattle.media.proofs.is_among.Tie as tie

@@ -4,7 +4,7 @@ use native.Mathlib.Omega.{arith}
 use borrow.Author.Needs.{needs}
 use mathlib.Core.Path.{_≡_, ap, _∙_}
 use lib.ListN.{take, drop}
-use Rattle.grammar.specs.Scans.{slice}
+use Rattle.grammar.specs.helpers.Scans.{slice}
 use Rattle.octets.specs.Case.{alike}
 use Rattle.media.proofs.is_name.Statement.{statement}
 use Rattle.media.proofs.is_name.Tie as tie

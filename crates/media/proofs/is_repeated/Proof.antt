@@ -4,9 +4,9 @@ use native.Mathlib.Omega.{arith}
 use borrow.Author.Needs.{needs}
 use mathlib.Core.Path.{_≡_, refl, _∙_}
 use lib.ListN.{take, drop}
-use Rattle.grammar.specs.Scans.{slice}
+use Rattle.grammar.specs.helpers.Scans.{slice}
 use Rattle.media.specs.Grammar.{among}
-use Rattle.media.specs.Places.{names-at}
+use Rattle.media.specs.helpers.Places.{names-at}
 use Rattle.media.proofs.Tables.{entry-below, none-named, entry-placed, named-here, not-named}
 use Rattle.media.proofs.is_repeated.Statement.{statement}
 use Rattle.media.proofs.is_repeated.Tie as tie

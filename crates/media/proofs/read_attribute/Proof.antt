@@ -5,7 +5,7 @@ use mathlib.Core.Path.{_≡_, sym, subst, _∙_}
 use lib.ListN.{length, take}
 use Rattle.octets.specs.Bytes.{token?}
 use Rattle.octets.proofs.Tables.{token-bits}
-use Rattle.media.specs.Scan.{StepAt}
+use Rattle.media.specs.helpers.Scan.{StepAt}
 use Rattle.media.proofs.Scan.{counted-in, table-placed, steps-on, name-none, name-run}
 use Rattle.media.proofs.Scan.{seventeenth, name-cut-off, equals-not, name-repeated, name-new}
 use Rattle.media.proofs.read_attribute.Statement.{statement}

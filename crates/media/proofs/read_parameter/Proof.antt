@@ -5,7 +5,7 @@ use mathlib.Core.Path.{_≡_, sym, subst, _∙_}
 use lib.ListN.{length, take}
 use Rattle.octets.specs.Bytes.{blank?}
 use Rattle.octets.proofs.Tables.{blank-bits}
-use Rattle.media.specs.Scan.{StepAt}
+use Rattle.media.specs.helpers.Scan.{StepAt}
 use Rattle.media.proofs.Scan.{steps-on, blanks-end, semicolon-not, name-begins, name-behind}
 use Rattle.media.proofs.read_parameter.Statement.{statement}
 use Rattle.media.proofs.read_parameter.Tie as tie

@@ -4,7 +4,7 @@ use native.Mathlib.Omega.{arith}
 use borrow.Author.Needs.{needs}
 use mathlib.Core.Path.{_≡_, refl, sym, ap, subst, _∙_}
 use lib.ListN.{length, take}
-use Rattle.media.specs.Scan.{StepAt}
+use Rattle.media.specs.helpers.Scan.{StepAt}
 use Rattle.media.proofs.Filled.{Filling, filling-found, filling-few, filling-next, filled-answer, refused-answer}
 use Rattle.media.proofs.read_parameters.Statement.{statement}
 use Rattle.media.proofs.read_parameters.Tie as tie

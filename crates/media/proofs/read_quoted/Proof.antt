@@ -4,7 +4,7 @@ use native.Mathlib.Omega.{arith}
 use borrow.Author.Needs.{needs}
 use mathlib.Core.Path.{_≡_, sym, ap, subst, _∙_}
 use Rattle.grammar.specs.Reading.{refused}
-use Rattle.media.specs.Scan.{StepAt}
+use Rattle.media.specs.helpers.Scan.{StepAt}
 use Rattle.media.proofs.Scan.{quote-cut-off, quote-not, quote-read}
 use Rattle.media.proofs.read_quoted.Statement.{statement}
 use Rattle.media.proofs.read_quoted.Tie as tie

@@ -7,7 +7,7 @@ use Rattle.grammar.specs.Reading.{refused}
 use Rattle.octets.specs.Bytes.{token?}
 use Rattle.octets.proofs.Runs.{run-is}
 use Rattle.octets.proofs.Tables.{token-bits}
-use Rattle.media.specs.Scan.{StepAt}
+use Rattle.media.specs.helpers.Scan.{StepAt}
 use Rattle.media.proofs.Scan.{value-cut-off, token-none, token-read}
 use Rattle.media.proofs.read_value.Statement.{statement}
 use Rattle.media.proofs.read_value.Tie as tie

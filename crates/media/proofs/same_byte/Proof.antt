@@ -3,7 +3,7 @@ use borrow.Author.Needs.{needs}
 use mathlib.Core.Path.{sym, ap, ap₂, _∙_}
 use mathlib.Core.Bool.{Bool}
 use lib.Dec.{eqb}
-use Rattle.media.specs.Places.{same-byte}
+use Rattle.media.specs.helpers.Places.{same-byte}
 use Rattle.media.proofs.same_byte.Statement.{statement}
 use Rattle.media.proofs.same_byte.Tie as tie
 

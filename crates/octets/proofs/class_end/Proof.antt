@@ -6,7 +6,7 @@ use borrow.Author.Tests.{not-true, not-false}
 use mathlib.Core.Path.{_≡_, refl, sym, _∙_}
 use mathlib.Core.Bool.{Bool}
 use lib.ListN.{length, getD}
-use Rattle.octets.specs.Runs.{Bits, run-end}
+use Rattle.octets.specs.helpers.Runs.{Bits, run-end}
 use Rattle.octets.proofs.Runs.{run-end-out, run-end-stop, run-end-next}
 use Rattle.octets.proofs.class_end.Statement.{statement}
 use Rattle.octets.proofs.class_end.Tie as tie

@@ -5,7 +5,7 @@ use native.Mathlib.Omega.{arith}
 use borrow.Author.Needs.{needs}
 use mathlib.Core.Path.{sym, subst}
 use lib.ListN.{length}
-use Rattle.products.specs.Scan.{CommentAt, ContentAt, PlainAt, Passed}
+use Rattle.products.specs.helpers.Scan.{CommentAt, ContentAt, PlainAt, Passed}
 use Rattle.products.proofs.Comments.{none-allowed, some-refused, some-reads, passed-none, passed-plain, passed-refused, passed-cut-off, passed-comment, passed-comment-refused}
 use borrow.Fn.Kinds.{In}
 use borrow.Fn.PlainCycle.{Measures, is, falls, and}

@@ -8,7 +8,7 @@ use Rattle.grammar.proofs.Loop.{header-long}
 use Rattle.octets.specs.Bytes.{blank?}
 use Rattle.octets.proofs.Tables.{blank-bits}
 use Rattle.products.specs.Grammar.{rules}
-use Rattle.products.specs.Scan.{Found, ItemAt}
+use Rattle.products.specs.helpers.Scan.{Found, ItemAt}
 use Rattle.products.proofs.Items.{found-none}
 use Rattle.products.proofs.read.Statement.{statement}
 use Rattle.products.proofs.read.Tie as tie

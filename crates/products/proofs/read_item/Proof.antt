@@ -3,7 +3,7 @@ use Prim.Native.Nat.{ℕ, _+_}
 use native.Mathlib.Omega.{arith}
 use borrow.Author.Needs.{needs}
 use mathlib.Core.Path.{sym, subst}
-use Rattle.products.specs.Scan.{CommentAt, ItemRead}
+use Rattle.products.specs.helpers.Scan.{CommentAt, ItemRead}
 use Rattle.products.proofs.Items.{no-item, outer-refused, outer-reads}
 use Rattle.products.proofs.read_item.Statement.{statement}
 use Rattle.products.proofs.read_item.Tie as tie

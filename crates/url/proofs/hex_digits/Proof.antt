@@ -8,7 +8,7 @@ use mathlib.Core.Bool.{true, false}
 use mathlib.Core.List.{List}
 use lib.ListN.{length, getD}
 use Rattle.octets.specs.Bytes.{hex?}
-use Rattle.url.specs.Scan.{Hexes}
+use Rattle.url.specs.helpers.Scan.{Hexes}
 use Rattle.url.proofs.Tables.{hex-bits}
 use Rattle.url.proofs.hex_digits.Statement.{statement}
 use Rattle.url.proofs.hex_digits.Tie as tie

@@ -5,7 +5,7 @@ use borrow.Author.Needs.{needs}
 use mathlib.Core.Path.{sym, ap, subst, _∙_}
 use Rattle.url.specs.Bytes.{path?}
 use Rattle.url.specs.Reading.{verdict}
-use Rattle.url.specs.Scan.{Found}
+use Rattle.url.specs.helpers.Scan.{Found}
 use Rattle.url.proofs.Tables.{path-bits}
 use Rattle.url.proofs.Scan.{path-absent, path-not, path-breaks, path-reads}
 use Rattle.url.proofs.read_path.Statement.{statement}

@@ -5,7 +5,7 @@ use borrow.Author.Needs.{needs}
 use mathlib.Core.Path.{sym, ap, subst, _∙_}
 use Rattle.url.specs.Bytes.{query?}
 use Rattle.url.specs.Reading.{verdict}
-use Rattle.url.specs.Scan.{Found}
+use Rattle.url.specs.helpers.Scan.{Found}
 use Rattle.url.proofs.Tables.{query-bits}
 use Rattle.url.proofs.Scan.{query-absent, query-not, query-breaks, query-goes-on, query-up, query-reads}
 use Rattle.url.proofs.read_query.Statement.{statement}

@@ -4,7 +4,7 @@ use mathlib.Core.Path.{sym, ap, ap₂, subst, _∙_}
 use mathlib.Core.List.{[], _∷_}
 use Rattle.octets.specs.Same.{same?}
 use Rattle.url.specs.Meaning.{resolved}
-use Rattle.url.specs.Places.{Within, path-in}
+use Rattle.url.specs.helpers.Places.{Within, path-in}
 use Rattle.url.proofs.same_path.Statement.{statement}
 use Rattle.url.proofs.same_path.Tie as tie
 

@@ -3,7 +3,7 @@ use borrow.Author.Needs.{needs}
 use mathlib.Core.Path.{sym, ap, ap₂, subst, _∙_}
 use Rattle.octets.specs.Same.{same?}
 use Rattle.url.specs.Meaning.{resolved, same-query}
-use Rattle.url.specs.Places.{Within, query-in}
+use Rattle.url.specs.helpers.Places.{Within, query-in}
 use Rattle.url.proofs.same_query.Statement.{statement}
 use Rattle.url.proofs.same_query.Tie as tie
 

@@ -5,8 +5,8 @@ use borrow.Author.Needs.{needs}
 use mathlib.Core.Path.{_≡_, refl, sym, ap, subst, _∙_}
 use mathlib.Core.Bool.{Bool}
 use lib.ListN.{length, getD}
-use Rattle.octets.specs.Runs.{Bits}
-use Rattle.url.specs.Scan.{Hexes, Stretch, empty, plain, escape}
+use Rattle.octets.specs.helpers.Runs.{Bits}
+use Rattle.url.specs.helpers.Scan.{Hexes, Stretch, empty, plain, escape}
 use Rattle.url.proofs.text_end.Statement.{statement}
 use Rattle.url.proofs.text_end.Tie as tie
 

@@ -5,7 +5,7 @@ use mathlib.Core.Path.{_≡_, sym, ap, ap₂, _∙_}
 use mathlib.Core.List.{List}
 use Rattle.grammar.specs.Comparing.{compare, outcome}
 use Rattle.grammar.specs.Reading.{refused}
-use Rattle.grammar.specs.Judge.{header}
+use Rattle.grammar.specs.helpers.Judge.{header}
 use Rattle.octets.specs.declared.Refusal.{Refusal}
 use Rattle.url.specs.declared.Url.{Url}
 use Rattle.url.specs.declared.Reading.{Reading}

@@ -2,7 +2,7 @@
 use borrow.Author.Needs.{needs}
 use mathlib.Core.Path.{sym, ap, ap₂, _∙_}
 use Rattle.grammar.specs.Comparing.{compare, outcome}
-use Rattle.grammar.specs.Judge.{header}
+use Rattle.grammar.specs.helpers.Judge.{header}
 use Rattle.version.specs.Grammar.{rules}
 use Rattle.version.specs.Reading.{verdict, precedence}
 use Rattle.version.proofs.Version.compare_bytes.Statement.{statement}

@@ -6,11 +6,11 @@ use mathlib.Core.List.{List}
 use lib.Dec.{ltb}
 use lib.ListN.{length}
 use Rattle.grammar.specs.Grammar.{Part}
-use Rattle.grammar.specs.Checks.{ahead}
-use Rattle.grammar.specs.Judge.{header}
-use Rattle.grammar.specs.Scans.{from}
+use Rattle.grammar.specs.helpers.Checks.{ahead}
+use Rattle.grammar.specs.helpers.Judge.{header}
+use Rattle.grammar.specs.helpers.Scans.{from}
 use Rattle.octets.specs.Bytes.{letter?}
-use Rattle.octets.specs.Runs.{run-end}
+use Rattle.octets.specs.helpers.Runs.{run-end}
 use Rattle.language.specs.Grammar.{Name, subtags, primary-length, rules}
 
 -- the place behind the letters at i, eight of them at most

@@ -4,7 +4,7 @@ use mathlib.Core.List.{List}
 use lib.ListN.{take, drop}
 use Rattle.grammar.specs.Grammar.{Grammar}
 use Rattle.grammar.specs.Reading.{Rules, Verdict}
-use Rattle.grammar.specs.Judge.{judge}
+use Rattle.grammar.specs.helpers.Judge.{judge}
 
 -- the bytes of s from i up to e
 abbrev pub slice : List ℕ → ℕ → ℕ → List ℕ

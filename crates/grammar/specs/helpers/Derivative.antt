@@ -129,9 +129,9 @@ deriv (nest o c l m g r n) i b =
     (alt (cond (c .has b) (then (rest (record { label = m; start = i; text = b ∷ [] }) empty) (closed o c l m g n)) void)
     (inside o c l m g n (deriv g i b)))))
 
-abbrev pub after : {L : Type 0} → Grammar L → ℕ → List ℕ → Grammar L
-after g i [] = g
-after g i (b ∷ s) = after (deriv g i b) (suc i) s
+abbrev pub residual : {L : Type 0} → Grammar L → ℕ → List ℕ → Grammar L
+residual g i [] = g
+residual g i (b ∷ s) = residual (deriv g i b) (suc i) s
 
 -- how far s stays live
 abbrev pub reach : {L : Type 0} → Grammar L → ℕ → List ℕ → ℕ

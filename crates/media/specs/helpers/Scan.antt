@@ -6,16 +6,16 @@ use mathlib.Core.List.{List, [], _∷_, _++_}
 use lib.ListN.{length, getD}
 use Rattle.grammar.specs.Grammar.{Part, Grammar, byte, _⨾_, _∣_, part}
 use Rattle.grammar.specs.Reading.{refused}
-use Rattle.grammar.specs.Judge.{header}
-use Rattle.grammar.specs.Checks.{ahead}
-use Rattle.grammar.specs.Scans.{slice, from}
+use Rattle.grammar.specs.helpers.Judge.{header}
+use Rattle.grammar.specs.helpers.Checks.{ahead}
+use Rattle.grammar.specs.helpers.Scans.{slice, from}
 use Rattle.media.specs.declared.MediaType.{MediaType}
 use Rattle.media.specs.declared.Parameter.{Parameter}
 use Rattle.media.specs.declared.Step.{Step}
 use Rattle.media.specs.declared.Step.the-variants.{Passed, Stopped}
 use Rattle.media.specs.Grammar.{Name, attribute, EQUALS, token, argument, parameters}
 use Rattle.media.specs.Grammar.{attributes, repeats, entries, kind, parameter-limit, rules}
-use Rattle.media.specs.Places.{names-at, Placed}
+use Rattle.media.specs.helpers.Places.{names-at, Placed}
 
 abbrev pub texts : List (Part Name) → List (List ℕ)
 texts [] = []

@@ -2,7 +2,7 @@
 -- the parts that have begun are the same on every way to read on.
 use mathlib.Core.Bool.{Bool, true, false, _&&_}
 use mathlib.Core.List.{List, [], _∷_}
-use Rattle.grammar.specs.Derivative.{then}
+use Rattle.grammar.specs.helpers.Derivative.{then}
 use Rattle.grammar.specs.Grammar.{Part, Grammar, void, empty, byte, _⨾_, _∣_, star, part, rest, nest}
 
 abbrev pub fresh? : {L : Type 0} → Grammar L → Bool

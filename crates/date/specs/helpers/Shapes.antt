@@ -4,8 +4,8 @@ use mathlib.Core.Bool.{Bool, false, cond}
 use mathlib.Core.List.{List, [], _∷_}
 use lib.Dec.{ltb, eqb}
 use lib.ListN.{length, getD}
-use Rattle.grammar.specs.Words.{larger}
-use Rattle.octets.specs.Shapes.{fitting}
+use Rattle.grammar.specs.helpers.Words.{larger}
+use Rattle.octets.specs.helpers.Shapes.{fitting}
 
 -- the byte b stands at the place i
 abbrev pub standing : (s : List ℕ) (i b : ℕ) → Bool

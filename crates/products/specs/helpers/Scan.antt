@@ -5,14 +5,14 @@ use mathlib.Core.Bool.{true}
 use mathlib.Core.List.{List, [], _∷_, _++_}
 use lib.ListN.{length, getD}
 use Rattle.grammar.specs.Grammar.{Part, Grammar, empty, nest, just}
-use Rattle.grammar.specs.Derivative.{live, then}
+use Rattle.grammar.specs.helpers.Derivative.{live, then}
 use Rattle.grammar.specs.Reading as G
 use Rattle.grammar.specs.Reading.{Verdict, refused}
-use Rattle.grammar.specs.Judge.{held, header}
-use Rattle.grammar.specs.Checks.{ahead}
-use Rattle.grammar.specs.Scans.{from}
+use Rattle.grammar.specs.helpers.Judge.{held, header}
+use Rattle.grammar.specs.helpers.Checks.{ahead}
+use Rattle.grammar.specs.helpers.Scans.{from}
 use Rattle.octets.specs.Bytes.{blank?}
-use Rattle.octets.specs.Runs.{run-end}
+use Rattle.octets.specs.helpers.Runs.{run-end}
 use Rattle.products.specs.declared.Products.{Products}
 use Rattle.products.specs.declared.Comment.{Comment}
 use Rattle.products.specs.declared.Comment.the-variants as C

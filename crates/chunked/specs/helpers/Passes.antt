@@ -11,8 +11,8 @@ use Rattle.framing.specs.Grammar.{LINE_LIMIT}
 use Rattle.framing.specs.declared.LinePos.the-variants.{First, Size}
 use Rattle.framing.specs.declared.State.{State}
 use Rattle.framing.specs.declared.State.the-variants.{Line, Data}
-use Rattle.framing.specs.Machine.{lineStep, step, emit, start}
-use Rattle.framing.specs.Scan.{run, out, Quiet}
+use Rattle.framing.specs.helpers.Machine.{lineStep, step, emit, start}
+use Rattle.framing.specs.helpers.Scan.{run, out, Quiet}
 use Rattle.framing.specs.Reading.{judge, decode}
 use Rattle.chunked.specs.Verdict.{verdict}
 use Rattle.chunked.specs.declared.Answer.{Answer}

@@ -5,11 +5,11 @@ use mathlib.Core.Bool.{true}
 use mathlib.Core.List.{List, [], _∷_}
 use lib.ListN.{length}
 use Rattle.grammar.specs.Grammar.{Class, Part}
-use Rattle.grammar.specs.Checks.{ahead}
-use Rattle.grammar.specs.Judge.{header}
-use Rattle.grammar.specs.Scans.{from}
+use Rattle.grammar.specs.helpers.Checks.{ahead}
+use Rattle.grammar.specs.helpers.Judge.{header}
+use Rattle.grammar.specs.helpers.Scans.{from}
 use Rattle.octets.specs.Bytes.{digit?}
-use Rattle.octets.specs.Runs.{Bits}
+use Rattle.octets.specs.helpers.Runs.{Bits}
 use Rattle.qvalue.specs.Grammar.{Name, whole, decimals, rules}
 
 abbrev pub whole-part : ℕ → Part Name

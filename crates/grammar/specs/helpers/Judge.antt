@@ -6,7 +6,7 @@ use mathlib.Core.Option.{Option, none, some}
 use lib.Dec.{ltb}
 use lib.ListN.{length}
 use Rattle.grammar.specs.Grammar.{Part, Grammar, void, empty, byte, _⨾_, _∣_, star, part, rest, nest}
-use Rattle.grammar.specs.Derivative.{live, nullable, deriv, ends}
+use Rattle.grammar.specs.helpers.Derivative.{live, nullable, deriv, ends}
 use Rattle.grammar.specs.Reading.{value-limit, Limit, Fault, limit-number, fault-number, Rules, Verdict, value, refused}
 
 -- the parts that have begun, in what is left of a grammar

@@ -8,9 +8,9 @@ use lib.Dec.{T, leb, ltb}
 use lib.ListN.{length, drop}
 use Rattle.grammar.specs.Grammar.{Part, Grammar, lit, bytes?}
 use Rattle.grammar.specs.Reading.{Verdict, refused}
-use Rattle.grammar.specs.Judge.{header, unless-fault}
-use Rattle.grammar.specs.Checks.{ahead}
-use Rattle.grammar.specs.Scans.{slice, from}
+use Rattle.grammar.specs.helpers.Judge.{header, unless-fault}
+use Rattle.grammar.specs.helpers.Checks.{ahead}
+use Rattle.grammar.specs.helpers.Scans.{slice, from}
 use Rattle.octets.specs.Numbers.{number}
 use Rattle.calendar.specs.declared.Fields.{Fields}
 use Rattle.date.specs.declared.Date.{Date}
@@ -19,8 +19,8 @@ use Rattle.date.specs.declared.Tail.{Tail}
 use Rattle.date.specs.declared.Tail.the-variants.{Month, Stops}
 use Rattle.date.specs.Grammar.{Name, weekday, fixed, dashed, plain, forms, full-year, fault-of, value-of, rules}
 use Rattle.date.specs.Names.{month-names, first-name}
-use Rattle.octets.specs.Shapes.{fitting}
-use Rattle.date.specs.Shapes.{longest}
+use Rattle.octets.specs.helpers.Shapes.{fitting}
+use Rattle.date.specs.helpers.Shapes.{longest}
 
 -- the place that was found, or d
 abbrev pub index : ℕ → Option ℕ → ℕ

@@ -7,7 +7,7 @@ use lib.Dec.{eqb}
 use lib.ListN.{length, getD, take, drop}
 use Rattle.grammar.specs.Grammar.{lower}
 use Rattle.grammar.specs.Reading.{value}
-use Rattle.grammar.specs.Judge.{header}
+use Rattle.grammar.specs.helpers.Judge.{header}
 use Rattle.octets.specs.Case.{alike}
 use Rattle.media.specs.declared.MediaType.{MediaType}
 use Rattle.media.specs.declared.Parameter.{Parameter}

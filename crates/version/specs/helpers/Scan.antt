@@ -6,9 +6,9 @@ use mathlib.Core.List.{List, [], _∷_}
 use lib.Dec.{ltb}
 use lib.ListN.{length}
 use Rattle.grammar.specs.Grammar.{Part, Grammar, byte, _⨾_, plus, part, just}
-use Rattle.grammar.specs.Checks.{ahead}
-use Rattle.grammar.specs.Judge.{header}
-use Rattle.grammar.specs.Scans.{slice, from}
+use Rattle.grammar.specs.helpers.Checks.{ahead}
+use Rattle.grammar.specs.helpers.Judge.{header}
+use Rattle.grammar.specs.helpers.Scans.{slice, from}
 use Rattle.octets.specs.Classes.{DIGIT}
 use Rattle.octets.specs.Numbers.{number}
 use Rattle.version.specs.Grammar.{Name, major, minor, largest, rules}

@@ -4,7 +4,7 @@ use mathlib.Core.Path.{_≡_}
 use mathlib.Core.List.{List, [], _∷_}
 use mathlib.Core.Option.{Option, none, some}
 use lib.ListN.{length, drop}
-use Rattle.grammar.specs.Scans.{slice}
+use Rattle.grammar.specs.helpers.Scans.{slice}
 use Rattle.url.specs.declared.Span.{Span}
 use Rattle.url.specs.declared.Place.{Place}
 use Rattle.url.specs.declared.Place.the-variants.{Absent, At}

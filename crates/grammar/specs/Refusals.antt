@@ -1,0 +1,41 @@
+-- Document 01, "Refusal numbers", by name; the code has the same names in octets.
+use Prim.Native.Nat.{ℕ}
+
+abbrev pub MALFORMED : ℕ
+MALFORMED = 1
+
+abbrev pub ABOVE_LIMIT : ℕ
+ABOVE_LIMIT = 2
+
+abbrev pub NO_SUCH_DATE : ℕ
+NO_SUCH_DATE = 3
+
+abbrev pub WRONG_DAY : ℕ
+WRONG_DAY = 4
+
+abbrev pub LINE_TOO_LONG : ℕ
+LINE_TOO_LONG = 5
+
+abbrev pub TRAILER_TOO_LONG : ℕ
+TRAILER_TOO_LONG = 6
+
+abbrev pub BODY_TOO_LARGE : ℕ
+BODY_TOO_LARGE = 7
+
+abbrev pub OUTPUT_TOO_SHORT : ℕ
+OUTPUT_TOO_SHORT = 8
+
+abbrev pub OUT_OF_RANGE : ℕ
+OUT_OF_RANGE = 9
+
+abbrev pub TOO_MANY_PARAMETERS : ℕ
+TOO_MANY_PARAMETERS = 10
+
+abbrev pub REPEATED_ATTRIBUTE : ℕ
+REPEATED_ATTRIBUTE = 11
+
+abbrev pub NESTED_TOO_DEEP : ℕ
+NESTED_TOO_DEEP = 12
+
+abbrev pub VALUE_TOO_LONG : ℕ
+VALUE_TOO_LONG = 13
