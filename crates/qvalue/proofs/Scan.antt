@@ -73,7 +73,7 @@ module _ (s : List ℕ) (short : length s ≤ 8192) where
     zero-whole h = record {
       class = DIGIT;
       bits = digit-bits;
-      number-after = λ b e. e;
+      only-digits = λ b e. e;
       small = omega arith;
       some = at;
       reads = header-short rules s short ∙ goes-on rules s [] qvalue 0 (ahead (whole-part 0 ∷ []) (decimals DIGIT)) at (rw h) refl refl;
@@ -83,7 +83,7 @@ module _ (s : List ℕ) (short : length s ≤ 8192) where
     one-whole h = record {
       class = just 48 tt;
       bits = bits (0x1000000000000 ∷ 0 ∷ 0 ∷ 0 ∷ []) (λ b. eqb b 48) refl;
-      number-after = zero-digit;
+      only-digits = zero-digit;
       small = omega arith;
       some = at;
       reads = header-short rules s short ∙ goes-on rules s [] qvalue 0 (ahead (whole-part 1 ∷ []) (decimals (just 48 tt))) at (rw h) refl refl;
@@ -139,7 +139,7 @@ module _ (s : List ℕ) (w : ℕ) (words : List ℕ) (a : AfterWhole s w words) 
                 go : (x : Bool) → ltb k (length s) ≡ x → digit? (getD s k 48) ≡ true
                 go true f =
                     let l = ltb-true k (length s) f in
-                    ap digit? (sym (any-default s k l)) ∙ a .number-after (getD s k 0) (run .inside k h (omega arith))
+                    ap digit? (sym (any-default s k l)) ∙ a .only-digits (getD s k 0) (run .inside k h (omega arith))
                 go false f = ap digit? (List·getD-eq-default s 48 (ltb-false k (length s) f)) ∙ zero-digit 48 refl
 
             tail : slice s 2 e ++ [] ≡ drop 2 s

@@ -19,7 +19,7 @@ whole-part w = record { label = whole; start = 0; text = (48 + w) ∷ [] }
 pub record AfterWhole (s : List ℕ) (w : ℕ) (words : List ℕ) : Type 0 where
   pub class : Class
   pub bits : Bits words (class .has)
-  pub digits : (b : ℕ) → class .has b ≡ true → digit? b ≡ true
+  pub only-digits : (b : ℕ) → class .has b ≡ true → digit? b ≡ true
   pub small : w ≤ 1
   pub some : 1 ≤ length s
   pub reads : header rules s ≡ from rules s (ahead (whole-part w ∷ []) (decimals class)) 1
