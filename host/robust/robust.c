@@ -235,6 +235,12 @@ static Answer of_QzBody(QzBody r, const Call *c)
     return x;
 }
 
+static Answer of_QzLibraryVersion(QzLibraryVersion r, const Call *c)
+{
+    bool same = r.major == QZ_VERSION_MAJOR && r.minor == QZ_VERSION_MINOR && r.patch == QZ_VERSION_PATCH;
+    return answer(0, 0, c->a.length, same);
+}
+
 /* ---- samples: the generator changes, cuts and grows them */
 
 static const char *const versions[] = {"HTTP/1.1", "http/01.0", "HTTP/65535.65535", "HTTP/65536.0", NULL};
@@ -272,9 +278,15 @@ static const char *const texts[] = {"hello", "0\r\n\r\n", NULL};
 
 /* ---- the entry points, one line each */
 
-#define A c->a.bytes, c->a.length
-#define B c->b.bytes, c->b.length
-#define OUT c->out.bytes, c->out.length
+/* A length of 0 may come with a null pointer. */
+static uint8_t *lent(Block block, const Call *c)
+{
+    return block.length == 0 && c->numbers[1] % 2 == 0 ? NULL : block.bytes;
+}
+
+#define A lent(c->a, c), c->a.length
+#define B lent(c->b, c), c->b.length
+#define OUT lent(c->out, c), c->out.length
 #define NO(n) (1u << (n))
 #define MEDIA (NO(1) | NO(10) | NO(11) | NO(13))
 
@@ -300,7 +312,8 @@ static const char *const texts[] = {"hello", "0\r\n\r\n", NULL};
     ROW(qz_url_equal, (A, B), QzSame, urls, NO(1) | NO(2) | NO(13))                                                  \
     ROW(qz_products_read, (A), QzProducts, products, NO(1) | NO(12) | NO(13))                                        \
     ROW(qz_chunked_decode, (A, OUT), QzBody, bodies, NO(1) | NO(5) | NO(6) | NO(7))                                  \
-    ROW(qz_chunked_encode, (A, (size_t)c->numbers[0], OUT), QzWritten, texts, NO(7) | NO(8) | NO(9))
+    ROW(qz_chunked_encode, (A, (size_t)c->numbers[0], OUT), QzWritten, texts, NO(7) | NO(8) | NO(9))                 \
+    ROW(qz_library_version, (), QzLibraryVersion, texts, 0)
 
 #define CALL(function, arguments, type, samples, numbers)                                                            \
     static Answer call_##function(const Call *c)                                                                     \

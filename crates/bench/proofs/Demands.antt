@@ -1,53 +1,61 @@
--- What the program prints, however its input comes in pieces: a line of text for each line of the input. `put_piece` makes one step
--- of `printed`, and the end of `run` makes the last.
-use mathlib.Core.Path.{_≡_, refl, sym, _∙_, ap, ap₂}
-use mathlib.Core.List.{List, [], _∷_, _++_, append-assoc}
-use Prim.Native.Nat.{ℕ, _+_}
-use lib.Dec.{ltb}
-use lib.ListN.{length, take, drop}
-use borrow.Author.Tests.{ltb-true, ltb-false}
-use Rattle.numerals.proofs.Digits.{split}
-use Rattle.lines.specs.Reading.{line-end, lines-from, rest-from, last-line, lines-of}
-use Rattle.lines.proofs.Ends.{lines-none, rest-none, lines-append, rest-append, first-line, no-line}
-use Rattle.lines.proofs.Gathers.{clip-append}
-use Rattle.bench.specs.Saying.{LINE_LENGTH, said, all-said, output, joined, printed}
-use Rattle.bench.proofs.Says.{said-clip}
-use Rattle.bench.proofs.Pieces.{all-append, all-cons, all-one}
+-- What the program prints. The words quoted are those of document 01.
+use mathlib.Core.Path.{_≡_, refl, _∙_, ap}
+use mathlib.Core.List.{List, [], _∷_, _++_}
+use Prim.Native.Nat.{ℕ, _<_, _≤_}
+use Prim.Native.Char.{code}
+use native.Mathlib.Omega.{arith}
+use lib.ListN.{length}
+use Rattle.grammar.specs.Text.{bytes, joined}
+use Rattle.framing.specs.Reading.{decode}
+use Rattle.lines.specs.Grammar as G
+use Rattle.lines.specs.Grammar.{NoLf, Lines, Spells, DIGIT_LIMIT}
+use Rattle.lines.specs.Reading.{lines-from, rest-from, lines-of}
+use Rattle.lines.proofs.Demands as L
+use Rattle.bench.specs.Saying.{ROOM, said-answer, said-bytes, said, all-said, printed}
+use Rattle.bench.specs.Calls.{Calls}
+use Rattle.bench.proofs.Example as Example
+use Rattle.bench.proofs.Pieces.{all-one}
+use Rattle.bench.proofs.Printing.{calls-print, calls-are}
 
--- of a line begun only its first bytes count
-said-behind : (h xs : List ℕ) → said (take LINE_LENGTH h ++ xs) ≡ said (h ++ xs)
-said-behind h xs = sym (said-clip (take LINE_LENGTH h ++ xs)) ∙ ap said (clip-append LINE_LENGTH h xs) ∙ said-clip (h ++ xs)
+-- In whatever way an input is cut into pieces, `put_piece` on each in turn and then `put_last` put what is printed of that input.
+pub prints : {line text : List ℕ} {pieces : List (List ℕ)} → Calls line 0 pieces text → text ≡ printed (joined pieces)
+unfolding printed lines-of
+prints calls = calls-print [] refl calls
 
-clipped : (h q : List ℕ) → (all-said (lines-from (take LINE_LENGTH h) q) ≡ all-said (lines-from h q))
-    × (take LINE_LENGTH (rest-from (take LINE_LENGTH h) q) ≡ take LINE_LENGTH (rest-from h q))
-clipped h q = split (ltb (line-end q) (length q))
-    (λ t. let a = first-line (take LINE_LENGTH h) q (ltb-true (line-end q) (length q) t) in
-    let b = first-line h q (ltb-true (line-end q) (length q) t) in (
-      ap all-said (a .0) ∙ all-cons (take LINE_LENGTH h ++ take (line-end q) q) (lines-from [] (drop (line-end q + 1) q))
-          ∙ ap (λ (z : List ℕ). z ++ all-said (lines-from [] (drop (line-end q + 1) q))) (said-behind h (take (line-end q) q))
-          ∙ sym (ap all-said (b .0) ∙ all-cons (h ++ take (line-end q) q) (lines-from [] (drop (line-end q + 1) q))),
-      ap (take LINE_LENGTH) (a .1 ∙ sym (b .1)),
-    ))
-    (λ t. let a = no-line (take LINE_LENGTH h) q (ltb-false (line-end q) (length q) t) in
-    let b = no-line h q (ltb-false (line-end q) (length q) t) in
-    (ap all-said (a .0 ∙ sym (b .0)), ap (take LINE_LENGTH) (a .1) ∙ clip-append LINE_LENGTH h q ∙ sym (ap (take LINE_LENGTH) (b .1))))
+-- There are such calls for every list of pieces.
+pub calls-exist : (line : List ℕ) (pieces : List (List ℕ)) → (text : List ℕ) × Calls line 0 pieces text
+calls-exist line pieces = calls-are line 0 pieces
 
-last-clipped : (h : List ℕ) → all-said (last-line (take LINE_LENGTH h)) ≡ all-said (last-line h)
-last-clipped [] = refl
-last-clipped (b ∷ h) = all-one (take LINE_LENGTH (b ∷ h)) ∙ said-clip (b ∷ h) ∙ sym (all-one (b ∷ h))
+-- What is said of each line of an input is printed, in order: lines "ended by LF or the end of input".
+pub says-lines : {input : List ℕ} {lines : List (List ℕ)} → Lines input lines → printed input ≡ all-said lines
+unfolding printed
+says-lines {input} {lines} are = ap all-said (L.lines input lines .1 are)
 
-printed-is : (h : List ℕ) (pieces : List (List ℕ))
-    → printed (take LINE_LENGTH h) pieces ≡ all-said (lines-from h (joined pieces) ++ last-line (rest-from h (joined pieces)))
-unfolding printed joined
-printed-is h [] = last-clipped h ∙ sym (ap₂ (λ (x : List (List ℕ)) (y : List ℕ). all-said (x ++ last-line y)) (lines-none h) (rest-none h))
-printed-is h (p ∷ pieces) =
-    ap₂ (λ (x y : List ℕ). x ++ printed y pieces) (clipped h p .0) (clipped h p .1)
-    ∙ ap (λ (x : List ℕ). all-said (lines-from h p) ++ x) (printed-is (rest-from h p) pieces)
-    ∙ sym (all-append (lines-from h p) (lines-from (rest-from h p) (joined pieces) ++ last-line (rest-from (rest-from h p) (joined pieces))))
-    ∙ ap all-said (sym (append-assoc (lines-from h p) (lines-from (rest-from h p) (joined pieces)) (last-line (rest-from (rest-from h p) (joined pieces)))))
-    ∙ ap₂ (λ (x : List (List ℕ)) (y : List ℕ). all-said (x ++ last-line y)) (sym (lines-append h p (joined pieces))) (sym (rest-append h p (joined pieces)))
+-- A line of at most 32,768 digits, two for each byte of a frame: "Each is decoded as a chunked body in 16,384 bytes of room."
+pub good-line : {line frame : List ℕ} → Spells line frame → length line ≤ DIGIT_LIMIT → said line ≡ said-answer (decode ROOM frame)
+unfolding said said-bytes
+good-line {line} {frame} spells short =
+    ap said-bytes (L.good line frame ROOM .1 (spells, short, omega (arith, L.two-digits spells)))
 
--- the pieces of an input, in whatever way it is cut, give the output of the input
-pub prints : (pieces : List (List ℕ)) → printed [] pieces ≡ output (joined pieces)
-unfolding output lines-of
-prints pieces = printed-is [] pieces
+-- "A line with an odd count, another character or too many digits gives `X`."
+pub bad-line : (line : List ℕ) → ((frame : List ℕ) → Spells line frame → length line ≤ DIGIT_LIMIT → ⊥) → said line ≡ bytes "X\n"
+unfolding said said-bytes
+bad-line line bad = ap said-bytes (L.bad line ROOM .1 (λ frame spells short _. bad frame spells short))
+
+-- one line alone, "ended by LF or the end of input": "After the last LF, nothing left is no line"
+pub one-line : {line : List ℕ} → NoLf line
+    → (printed (line ++ (code "\n" ∷ [])) ≡ said line) × (0 < length line → printed line ≡ said line)
+one-line {line} free = (says-lines (G.next free G.none) ∙ all-one line, λ some. says-lines (G.last free some) ∙ all-one line)
+
+-- "An empty line ended by LF is a frame of no bytes and gives `M`."
+pub empty-line : printed (code "\n" ∷ []) ≡ bytes "M\n"
+empty-line = Example.empty-line
+
+-- "empty input prints nothing"
+pub empty-input : printed [] ≡ []
+unfolding printed all-said lines-of lines-from rest-from
+empty-input = refl
+
+-- the example of document 01
+pub example : printed (bytes "350D0A68656C6C6F0D0A300D0A0D0A\n350D0A\n350D58\n46464646\n3\n") ≡ bytes "C 15 5\nM\nR 1 2\nR 7 3\nX\n"
+example = Example.example

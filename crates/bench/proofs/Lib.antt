@@ -1,3 +1,5 @@
 pub mod Says
 pub mod Pieces
+pub mod Printing
+pub mod Example
 pub mod Demands

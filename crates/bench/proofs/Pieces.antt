@@ -6,16 +6,18 @@ use Prim.Native.Nat.{ℕ, _+_, _-_, _*_, _<_, _≤_}
 use native.Mathlib.Omega.{arith}
 use lib.Dec.{eqb, ltb}
 use lib.ListN.{length, take, drop, length-append, length-drop, length-take, drop-of-length-le}
-use lib.Seq.{take-all, take-at, drop-drop}
+use lib.Seq.{take-all, take-at, drop-drop, length-take-le}
 use borrow.Author.Tests.{ltb-true, ltb-false}
 use Rattle.numerals.proofs.Digits.{split, at-true, at-false}
 use Rattle.text.specs.Placing.{placed}
 use Rattle.text.proofs.Placing.{placed-fits, placed-length, placed-placed}
-use Rattle.lines.specs.Reading.{line-end, lines-from, rest-from, line-with, gathering}
+use Rattle.lines.specs.Reading.{line-end, lines-from, rest-from, line-with, gathered-line, gathering}
 use Rattle.lines.specs.declared.Gathered.{Gathered}
 use Rattle.lines.proofs.Demands as Lines
 use Rattle.lines.proofs.Ends.{end-within, lines-none, lines-lf, lines-on, rest-none}
-use Rattle.bench.specs.Saying.{ROOM, LINE_LENGTH, said, all-said}
+use Rattle.bench.specs.Saying.{ROOM, said, all-said}
+use Rattle.bench.specs.Calls.{LINE_LENGTH, last-said, Foremost}
+use Rattle.bench.specs.helpers.Fits.{PieceFits}
 use Rattle.bench.proofs.Says.{said-short, said-clip}
 
 -- ## All that is said
@@ -40,6 +42,52 @@ all-short : (ls : List (List ℕ)) → length (all-said ls) ≤ 16 * length ls
 all-short [] = omega (arith, ap length all-none)
 all-short (l ∷ ls) = omega (arith, ap length (all-cons l ls), length-append (said l) (all-said ls), said-short l, all-short ls)
 
+-- ## Text of a piece
+lines-few : (begun xs : List ℕ) → length (lines-from begun xs) ≤ length xs
+lines-few begun [] = omega (arith, ap length (lines-none begun))
+lines-few begun (b ∷ xs) = split (eqb b 10)
+    (λ e. omega (arith, ap length (lines-lf begun b xs e), lines-few [] xs))
+    (λ e. omega (arith, ap length (lines-on begun b xs e), lines-few (begun ++ (b ∷ [])) xs))
+
+text-short : (begun xs : List ℕ) → length (all-said (lines-from begun xs)) ≤ 16 * length xs
+text-short begun xs = omega (arith, all-short (lines-from begun xs), lines-few begun xs)
+
+-- ## At the end of input
+last-none : (held : List ℕ) → length held ≡ 0 → last-said held ≡ []
+last-none [] e = all-none
+last-none (b ∷ held) e = absurd (omega arith)
+
+last-some : (held : List ℕ) → (length held ≡ 0 → ⊥) → last-said held ≡ said held
+last-some [] f = absurd (f refl)
+last-some (b ∷ held) f = all-one (b ∷ held)
+
+-- ## What stands in front
+foremost-put : {n : ℕ} {new : List ℕ} (old xs : List ℕ) → length xs ≤ length old → n ≡ length xs → new ≡ placed old 0 xs
+    → Foremost n new xs
+foremost-put {n} {new} old xs h e w =
+    let k : n ≤ length new = omega (arith, ap length w, placed-length old 0 xs) in
+    record {
+      within = k;
+      counts = sym (length-take-le n new k);
+      is = ap₂ take e (w ∙ placed-fits old 0 xs (omega arith)) ∙ take-at xs (drop (0 + length xs) old) (length xs) refl;
+    }
+
+-- what `put_last` has to show
+module _ (held out : List ℕ) where
+  pub last-nothing : length held ≡ 0 → Foremost 0 out (last-said held) × (out ≡ placed out 0 (last-said held))
+  last-nothing e =
+      let none = last-none held e in
+      let put = sym (ap (placed out 0) none ∙ placed-fits out 0 [] (omega arith)) in
+      (foremost-put out (last-said held) (omega (arith, ap length none)) (sym (ap length none)) put, put)
+
+  pub last-answered : {used : ℕ} {new : List ℕ} → (length held ≡ 0 → ⊥) → 16 ≤ length out → used ≡ 0 + length (said held)
+      → new ≡ placed out 0 (said held) → Foremost used new (last-said held) × (new ≡ placed out 0 (last-said held))
+  last-answered {used} f fits e w =
+      let some = sym (last-some held f) in
+      let put = w ∙ ap (placed out 0) some in
+      let count : used ≡ length (last-said held) = omega (arith, ap length some) in
+      (foremost-put out (last-said held) (omega (arith, said-short held, ap length some)) count put, put)
+
 -- ## Where a piece stands
 -- at bytes of it are taken: these lines ended, and of the line begun behind them the first bytes are held
 pub record Spoken (piece first : List ℕ) (old line frame room out : List ℕ) (at begun used : ℕ) : Type 0 where
@@ -57,16 +105,16 @@ pub record Spoken (piece first : List ℕ) (old line frame room out : List ℕ) 
   pub count : used ≡ length (all-said ended)
   pub few : length ended ≤ at
 
-pub spoken-start : (piece line₀ : List ℕ) (begun : ℕ) (old frame room : List ℕ) → length line₀ ≡ LINE_LENGTH → length frame ≡ ROOM → length room ≡ ROOM
-    → begun ≤ LINE_LENGTH → Spoken piece (take begun line₀) old line₀ frame room old 0 begun 0
-spoken-start piece line₀ begun old frame room l f r h = record {
-  lined = l;
-  framed = f;
-  roomed = r;
+pub spoken-start : {piece line₀ old frame room : List ℕ} {begun : ℕ} → PieceFits piece line₀ begun frame room old
+    → Spoken piece (take begun line₀) old line₀ frame room old 0 begun 0
+spoken-start {piece} {line₀} {old} {frame} {room} {begun} fits = record {
+  lined = fits .0;
+  framed = fits .2;
+  roomed = fits .3;
   ended = [];
   head = take begun line₀;
   within = omega arith;
-  short = h;
+  short = fits .1;
   held = sym (take-all LINE_LENGTH (take begun line₀) (omega (arith, length-take begun line₀)));
   lines = refl;
   rest = refl;
@@ -75,7 +123,14 @@ spoken-start piece line₀ begun old frame room l f r h = record {
   few = omega arith;
 }
 
-module _ (piece first old line frame room out : List ℕ) (at begun used : ℕ) (s : Spoken piece first old line frame room out at begun used) where
+-- what `gather` gave of the bytes of a piece from a place on
+pub record Part (piece line : List ℕ) (at begun : ℕ) (g : Gathered) (line′ : List ℕ) : Type 0 where
+  pub below : at < length piece
+  pub answers : g ≡ gathering line begun (take (length piece - at) (drop at piece))
+  pub writes : line′ ≡ gathered-line line begun (take (length piece - at) (drop at piece))
+
+module _ {piece first old line frame room out : List ℕ} {at begun used : ℕ}
+    (s : Spoken piece first old line frame room out at begun used) where
   pub out-length : length out ≡ length old
   out-length = ap length (s .wrote) ∙ placed-length old 0 (all-said (s .ended))
 
@@ -83,38 +138,57 @@ module _ (piece first old line frame room out : List ℕ) (at begun used : ℕ) 
   pub next-fits : (l : List ℕ) → at < length piece → 16 * length piece + 16 ≤ length old → used + length (said l) ≤ length out
   next-fits l h f = omega (arith, out-length, s .count, s .few, all-short (s .ended), said-short l)
 
-  pub spoken-all : length piece ≤ at → (used ≡ length (all-said (lines-from first piece))) × (out ≡ placed old 0 (all-said (lines-from first piece)))
-      × (take begun line ≡ take LINE_LENGTH (rest-from first piece))
-  spoken-all h =
+  pub spoken-all : length piece ≤ at → 16 * length piece ≤ length old → Foremost used out (all-said (lines-from first piece))
+      × (out ≡ placed old 0 (all-said (lines-from first piece)))
+      × Foremost begun line (take LINE_LENGTH (rest-from first piece))
+  spoken-all h fits =
       let none : drop at piece ≡ [] = drop-of-length-le piece {i = at} h in
       let e : lines-from first piece ≡ s .ended
-      = s .lines ∙ ap (λ (z : List ℕ). s .ended ++ lines-from (s .head) z) none ∙ ap (λ (z : List (List ℕ)). s .ended ++ z) (lines-none (s .head)) ∙ append-nil (s .ended) in
-      let r : rest-from first piece ≡ s .head = s .rest ∙ ap (rest-from (s .head)) none ∙ rest-none (s .head) in (
-        s .count ∙ ap (λ (z : List (List ℕ)). length (all-said z)) (sym e),
-        s .wrote ∙ ap (λ (z : List (List ℕ)). placed old 0 (all-said z)) (sym e),
-        s .held ∙ ap (take LINE_LENGTH) (sym r),
+      = s .lines ∙ ap (λ (z : List ℕ). s .ended ++ lines-from (s .head) z) none
+      ∙ ap (λ (z : List (List ℕ)). s .ended ++ z) (lines-none (s .head)) ∙ append-nil (s .ended) in
+      let r : rest-from first piece ≡ s .head = s .rest ∙ ap (rest-from (s .head)) none ∙ rest-none (s .head) in
+      let put = s .wrote ∙ ap (λ (z : List (List ℕ)). placed old 0 (all-said z)) (sym e) in
+      let count = s .count ∙ ap (λ (z : List (List ℕ)). length (all-said z)) (sym e) in
+      let within : begun ≤ length line = omega (arith, s .short, s .lined) in (
+        foremost-put old (all-said (lines-from first piece)) (omega (arith, text-short first piece)) count put,
+        put,
+        record { within = within; counts = sym (length-take-le begun line within); is = s .held ∙ ap (take LINE_LENGTH) (sym r) },
       )
 
   -- the part from at on is gathered
-  module _ (p : List ℕ) (g : Gathered) (line′ : List ℕ) (lt : at < length piece) (part : p ≡ take (length piece - at) (drop at piece))
-      (got : g ≡ gathering line begun p) (gave : line′ ≡ line-with line begun p ++ drop (length (line-with line begun p)) line) where
-    is-rest : p ≡ drop at piece
-    is-rest = part ∙ take-all (length piece - at) (drop at piece) (omega (arith, length-drop at piece))
+  pub part : {line′ : List ℕ} {g : Gathered} → at < length piece
+      → (g ≡ gathering line begun (take (length piece - at) (drop at piece)))
+      × (line′ ≡ gathered-line line begun (take (length piece - at) (drop at piece)))
+      → Part piece line at begun g line′
+  part h e = record { below = h; answers = e .0; writes = e .1 }
+
+  module _ {g : Gathered} {line′ : List ℕ} (got : Part piece line at begun g line′) where
+    abbrev p : List ℕ
+    p = drop at piece
+
+    is-rest : take (length piece - at) (drop at piece) ≡ p
+    is-rest = take-all (length piece - at) (drop at piece) (omega (arith, length-drop at piece))
+
+    gives : g ≡ gathering line begun p
+    gives = got .answers ∙ ap (gathering line begun) is-rest
+
+    gave : line′ ≡ gathered-line line begun p
+    gave = got .writes ∙ ap (gathered-line line begun) is-rest
 
     rest-length : length p ≡ length piece - at
-    rest-length = ap length is-rest ∙ length-drop at piece
+    rest-length = length-drop at piece
 
     counted : g .held ≡ length (line-with line begun p)
     unfolding gathering
-    counted = ap (λ (z : Gathered). z .held) got
+    counted = ap (λ (z : Gathered). z .held) gives
 
     flag : g .ended ≡ ltb (line-end p) (length p)
     unfolding gathering
-    flag = ap (λ (z : Gathered). z .ended) got
+    flag = ap (λ (z : Gathered). z .ended) gives
 
     moved : g .taken ≡ cond (ltb (line-end p) (length p)) (line-end p + 1) (line-end p)
     unfolding gathering
-    moved = ap (λ (z : Gathered). z .taken) got
+    moved = ap (λ (z : Gathered). z .taken) gives
 
     -- the line so far, whole
     abbrev pub whole : List ℕ
@@ -138,7 +212,9 @@ module _ (piece first old line frame room out : List ℕ) (at begun used : ℕ) 
     held-short = omega (arith, counted, ap length kept, length-take LINE_LENGTH whole)
 
     pub front : take (g .held) line′ ≡ take LINE_LENGTH whole
-    front = ap₂ take counted gave ∙ take-at (line-with line begun p) (drop (length (line-with line begun p)) line) (length (line-with line begun p)) refl ∙ kept
+    front =
+        let n = length (line-with line begun p) in
+        ap₂ take counted gave ∙ take-at (line-with line begun p) (drop n line) n refl ∙ kept
 
     taken-line : g .ended ≡ true → (line-end p < length p) × (g .taken ≡ line-end p + 1)
     taken-line e =
@@ -156,20 +232,20 @@ module _ (piece first old line frame room out : List ℕ) (at begun used : ℕ) 
         (λ e. (omega (arith, taken-all e .0, taken-all e .1, rest-length), omega (arith, taken-all e .1, end-within p, rest-length)))
 
     behind-part : (k : ℕ) → drop k p ≡ drop (at + k) piece
-    behind-part k = ap (drop k) is-rest ∙ drop-drop k at piece
+    behind-part k = drop-drop k at piece
 
     -- the line ended, and is answered
-    pub spoken-line : (frame′ room′ out′ : List ℕ) (used′ : ℕ) → g .ended ≡ true → 16 * length piece + 16 ≤ length old
+    pub spoken-line : {frame′ room′ out′ : List ℕ} {used′ : ℕ} → g .ended ≡ true → 16 * length piece + 16 ≤ length old
         → length frame′ ≡ length frame → length room′ ≡ length room
         → used′ ≡ used + length (said (take (g .held) line′)) → out′ ≡ placed out used (said (take (g .held) line′))
         → Spoken piece first old line′ frame′ room′ out′ (at + g .taken) 0 used′
-    spoken-line frame′ room′ out′ used′ e f fl rl u w =
+    spoken-line e f fl rl u w =
         let said-is : said (take (g .held) line′) ≡ said whole = ap said front ∙ said-clip whole in
         let more : all-said (s .ended ++ (whole ∷ [])) ≡ all-said (s .ended) ++ said whole
         = all-append (s .ended) (whole ∷ []) ∙ ap (λ (z : List ℕ). all-said (s .ended) ++ z) (all-one whole) in
         let past : drop (line-end p + 1) p ≡ drop (at + g .taken) piece
         = behind-part (line-end p + 1) ∙ ap (λ (k : ℕ). drop (at + k) piece) (sym (taken-line e .1)) in
-        let first-line = Lines.line-ended line (s .head) begun p (s .held ∙ ap (λ (k : ℕ). take k (s .head)) (sym (s .lined))) (taken-line e .0) in
+        let first-line = Lines.line-ended (s .head) p (taken-line e .0) in
         record {
           lined = line-length;
           framed = fl ∙ s .framed;
@@ -179,12 +255,13 @@ module _ (piece first old line frame room out : List ℕ) (at begun used : ℕ) 
           within = taken-within .1;
           short = omega arith;
           held = refl;
-          lines = s .lines ∙ ap (λ (z : List ℕ). s .ended ++ lines-from (s .head) z) (sym is-rest)
+          lines = s .lines
               ∙ ap (λ (z : List (List ℕ)). s .ended ++ z) (first-line .0 ∙ ap (λ (z : List ℕ). whole ∷ lines-from [] z) past)
               ∙ sym (append-assoc (s .ended) (whole ∷ []) (lines-from [] (drop (at + g .taken) piece)));
-          rest = s .rest ∙ ap (rest-from (s .head)) (sym is-rest) ∙ first-line .1 ∙ ap (rest-from []) past;
+          rest = s .rest ∙ first-line .1 ∙ ap (rest-from []) past;
           wrote = w ∙ ap₂ (λ (y z : List ℕ). placed y used z) (s .wrote) said-is
-              ∙ placed-placed old 0 (all-said (s .ended)) used (said whole) (omega (arith, s .few, all-short (s .ended), said-short whole)) (omega (arith, s .count))
+              ∙ placed-placed old 0 (all-said (s .ended)) used (said whole)
+              (omega (arith, s .few, all-short (s .ended), said-short whole)) (omega (arith, s .count))
               ∙ ap (placed old 0) (sym more);
           count = u ∙ omega (arith, s .count, ap length said-is, ap length more, length-append (all-said (s .ended)) (said whole));
           few = omega (arith, s .few, length-append (s .ended) (whole ∷ []), taken-within .0);
@@ -196,7 +273,7 @@ module _ (piece first old line frame room out : List ℕ) (at begun used : ℕ) 
         let whole-part : whole ≡ s .head ++ p = ap (λ (z : List ℕ). s .head ++ z) (take-all (line-end p) p (taken-all e .0)) in
         let none : drop (at + g .taken) piece ≡ []
         = drop-of-length-le piece {i = at + g .taken} (omega (arith, taken-all e .0, taken-all e .1, rest-length)) in
-        let no-line = Lines.line-goes-on line (s .head) begun p (s .held ∙ ap (λ (k : ℕ). take k (s .head)) (sym (s .lined))) (taken-all e .0) in
+        let no-line = Lines.line-goes-on (s .head) p (taken-all e .0) in
         record {
           lined = line-length;
           framed = s .framed;
@@ -206,20 +283,10 @@ module _ (piece first old line frame room out : List ℕ) (at begun used : ℕ) 
           within = taken-within .1;
           short = held-short;
           held = front;
-          lines = s .lines ∙ ap (λ (z : List ℕ). s .ended ++ lines-from (s .head) z) (sym is-rest)
+          lines = s .lines
               ∙ ap (λ (z : List (List ℕ)). s .ended ++ z) (no-line .0 ∙ sym (ap (lines-from whole) none ∙ lines-none whole));
-          rest = s .rest ∙ ap (rest-from (s .head)) (sym is-rest) ∙ no-line .1 ∙ sym whole-part ∙ sym (ap (rest-from whole) none ∙ rest-none whole);
+          rest = s .rest ∙ no-line .1 ∙ sym whole-part ∙ sym (ap (rest-from whole) none ∙ rest-none whole);
           wrote = s .wrote;
           count = s .count;
           few = omega (arith, s .few);
         }
-
--- ## Text of a piece
-lines-few : (begun xs : List ℕ) → length (lines-from begun xs) ≤ length xs
-lines-few begun [] = omega (arith, ap length (lines-none begun))
-lines-few begun (b ∷ xs) = split (eqb b 10)
-    (λ e. omega (arith, ap length (lines-lf begun b xs e), lines-few [] xs))
-    (λ e. omega (arith, ap length (lines-on begun b xs e), lines-few (begun ++ (b ∷ [])) xs))
-
-pub text-short : (begun xs : List ℕ) → length (all-said (lines-from begun xs)) ≤ 16 * length xs
-text-short begun xs = omega (arith, all-short (lines-from begun xs), lines-few begun xs)

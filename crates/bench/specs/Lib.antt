@@ -1,1 +1,3 @@
 pub mod Saying
+pub mod Calls
+pub mod helpers

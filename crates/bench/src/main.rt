@@ -1,12 +1,15 @@
 // Document 01's bench program: lines of hexadecimal, one frame a line, each decoded as a chunked body.
 ghost use mathlib.Core.Path.{_≡_};
 ghost use Prim.Native.Nat.{_+_, _≤_};
-ghost use lib.ListN.{length, take};
+ghost use lib.ListN.{length};
+ghost use Rattle.io.specs.Counts.{Counts};
 ghost use Rattle.text.specs.Placing.{placed};
 ghost use Rattle.chunked.specs.Verdict.{verdict};
-ghost use Rattle.bench.specs.Saying.{LINE_LENGTH as lineLength, numbers, said-answer, said, piece-said, piece-held};
-ghost use Rattle.bench.specs.Saying.{Buffers, PieceFits, LineFits};
+ghost use Rattle.bench.specs.Saying.{numbers, said-answer, said};
+ghost use Rattle.bench.specs.Calls.{piece-said, piece-held, last-said, Foremost};
+ghost use Rattle.bench.specs.helpers.Fits.{Buffers, PieceFits, LastFits, LineFits};
 use chunked::Answer;
+use libc::STDERR_FILENO;
 use libc::STDIN_FILENO;
 use libc::STDOUT_FILENO;
 use lines::Hex;
@@ -14,7 +17,7 @@ use lines::Hex;
 // The room of a body, and of a frame: two digits make a byte.
 const ROOM: usize = 16384;
 
-// The bytes of a line that are kept: one more than a good line has.
+// The bytes of a line that are kept: one more than a good line may have.
 const LINE_LENGTH: usize = 32769;
 
 // How much is read at once, and the room for its text: no line says more than 16 bytes.
@@ -37,19 +40,17 @@ fn main() {
     run(&mut piece, &mut line, &mut frame, &mut room, &mut out);
 }
 
-// Answers each line of the input; the last may have no LF.
+// Reads and writes, which no contract can speak of. What is put to be written, those of `put_piece` and `put_last` say.
 fn run(piece: &mut [u8], line: &mut [u8], frame: &mut [u8], room: &mut [u8], out: &mut [u8])
     requires { ⌜ Buffers (now piece) (now line) (now frame) (now room) (now out) ⌝ }
 {
     let held = read_all(piece, line, frame, room, out);
-    if held > 0 {
-        let used = put_line(&line[..held], frame, room, out, 0);
-        io::write_all(STDOUT_FILENO, &out[..used]);
-    }
+    let used = put_last(&line[..held], frame, room, out);
+    written(&out[..used]);
 }
 
-// Answers the lines that end with LF, and gives how many bytes are held of one behind them. A proved loop has to end, and nothing says
-// that an input does, so that the turns are counted down.
+// Answers the lines that end with LF, and gives how many bytes are held of one behind them; 0 once a write failed, so that nothing more
+// is written. A proved loop has to end, and nothing says that an input does, so that the turns are counted down.
 fn read_all(
     piece: &mut [u8],
     line: &mut [u8],
@@ -58,22 +59,42 @@ fn read_all(
     out: &mut [u8],
 ) -> usize
     requires { ⌜ Buffers (now piece) (now line) (now frame) (now room) (now out) ⌝ }
-    ensures { λ r. ⌜ r ≤ lineLength ⌝ }
+    ensures { λ r. ⌜ Counts r (now (line .exit)) ⌝ }
 {
     let mut held = 0;
     let mut turns = u64::MAX;
     while turns > 0 {
-        let n = io::count(libc::read(STDIN_FILENO, piece), piece);
-        if n == 0 {
+        let got = libc::read(STDIN_FILENO, piece);
+        let count = io::count(got, piece);
+        if count == 0 {
+            report_read(got);
             return held;
         }
-        let p = put_piece(&piece[..n], line, held, frame, room, out);
-        let used = p.used;
-        io::write_all(STDOUT_FILENO, &out[..used]);
-        held = p.held;
+        let progress = put_piece(&piece[..count], line, held, frame, room, out);
+        let used = progress.used;
+        if !written(&out[..used]) {
+            return 0;
+        }
+        held = progress.held;
         turns -= 1;
     }
     held
+}
+
+// Says on standard error that a read failed. At the end of input none did.
+fn report_read(got: isize) {
+    if got < 0 {
+        io::write_all(STDERR_FILENO, b"bench: standard input: read failed\n");
+    }
+}
+
+// Writes to standard output, and gives whether all was written; where not, standard error says so.
+fn written(text: &[u8]) -> bool {
+    if io::write_all(STDOUT_FILENO, text) {
+        return true;
+    }
+    io::write_all(STDERR_FILENO, b"bench: standard output: write failed\n");
+    false
 }
 
 // Puts what is said of the lines that end in this piece at the front of `out`, and holds what it begins of the next.
@@ -86,26 +107,37 @@ fn put_piece(
     out: &mut [u8],
 ) -> Progress
     requires { ⌜ PieceFits (now piece) (now line) held (now frame) (now room) (now out) ⌝ }
-    ensures counts { λ r. ⌜ r .used ≡ length (piece-said (now (line .entry)) held (now (piece .entry))) ⌝ }
-    ensures put { λ _. ⌜ now (out .exit) ≡ placed (now (out .entry)) 0 (piece-said (now (line .entry)) held (now (piece .entry))) ⌝ }
-    ensures fits { λ r. ⌜ r .held ≤ lineLength ⌝ }
-    ensures holds { λ r. ⌜ take (r .held) (now (line .exit)) ≡ piece-held (now (line .entry)) held (now (piece .entry)) ⌝ }
+    ensures says { λ r. ⌜ Foremost (r .used) (now (out .exit)) (piece-said (now (line .entry)) held (now (piece .entry))) ⌝ }
+    ensures keeps { λ _. ⌜ now (out .exit) ≡ placed (now (out .entry)) 0 (piece-said (now (line .entry)) held (now (piece .entry))) ⌝ }
+    ensures holds { λ r. ⌜ Foremost (r .held) (now (line .exit)) (piece-held (now (line .entry)) held (now (piece .entry))) ⌝ }
 {
     let mut at = 0;
     let mut begun = held;
     let mut used = 0;
     while at < piece.len() {
-        let g = lines::gather(&piece[at..], line, begun);
-        let k = g.held;
-        at += g.taken;
-        if g.ended {
-            used = put_line(&line[..k], frame, room, out, used);
+        let gathered = lines::gather(&piece[at..], line, begun);
+        let held = gathered.held;
+        at += gathered.taken;
+        if gathered.ended {
+            used = put_line(&line[..held], frame, room, out, used);
             begun = 0;
         } else {
-            begun = k;
+            begun = held;
         }
     }
     Progress { held: begun, used }
+}
+
+// At the end of input: puts what is said of the bytes held, if there are any, at the front of `out`.
+fn put_last(line: &[u8], frame: &mut [u8], room: &mut [u8], out: &mut [u8]) -> usize
+    requires { ⌜ LastFits (now frame) (now room) (now out) ⌝ }
+    ensures says { λ r. ⌜ Foremost r (now (out .exit)) (last-said (now (line .entry))) ⌝ }
+    ensures keeps { λ _. ⌜ now (out .exit) ≡ placed (now (out .entry)) 0 (last-said (now (line .entry))) ⌝ }
+{
+    if line.len() == 0 {
+        return 0;
+    }
+    put_line(line, frame, room, out, 0)
 }
 
 // Puts what is said of a line at `at`, and gives the place behind it.
@@ -114,34 +146,34 @@ fn put_line(line: &[u8], frame: &mut [u8], room: &mut [u8], out: &mut [u8], at: 
     ensures ends { λ r. ⌜ r ≡ at + length (said (now (line .entry))) ⌝ }
     ensures says { λ _. ⌜ now (out .exit) ≡ placed (now (out .entry)) at (said (now (line .entry))) ⌝ }
 {
-    let h = lines::from_hex(line, frame);
-    match h {
+    let bytes = lines::from_hex(line, frame);
+    match bytes {
         Hex::Bad => text::put_bytes(b"X\n", out, at),
-        Hex::Bytes(n) => put_answer(chunked::decode(&frame[..n], room), out, at),
+        Hex::Bytes(count) => put_answer(chunked::decode(&frame[..count], room), out, at),
     }
 }
 
-fn put_answer(a: Answer, out: &mut [u8], at: usize) -> usize
-    requires { ⌜ at + length (said-answer (verdict a)) ≤ length (now out) ⌝ }
-    ensures ends { λ r. ⌜ r ≡ at + length (said-answer (verdict a)) ⌝ }
-    ensures says { λ _. ⌜ now (out .exit) ≡ placed (now (out .entry)) at (said-answer (verdict a)) ⌝ }
+fn put_answer(answer: Answer, out: &mut [u8], at: usize) -> usize
+    requires { ⌜ at + length (said-answer (verdict answer)) ≤ length (now out) ⌝ }
+    ensures ends { λ r. ⌜ r ≡ at + length (said-answer (verdict answer)) ⌝ }
+    ensures says { λ _. ⌜ now (out .exit) ≡ placed (now (out .entry)) at (said-answer (verdict answer)) ⌝ }
 {
-    match a {
-        Answer::Whole { taken, len } => put_two(b"C ", taken as u64, len as u64, out, at),
+    match answer {
+        Answer::Whole { taken, length } => put_two(b"C ", taken as u64, length as u64, out, at),
         Answer::More => text::put_bytes(b"M\n", out, at),
-        Answer::Refused(r) => put_two(b"R ", r.number as u64, r.place as u64, out, at),
+        Answer::Refused(why) => put_two(b"R ", why.number as u64, why.place as u64, out, at),
     }
 }
 
-// Two numbers behind a letter and a blank.
-fn put_two(letter: &[u8], a: u64, b: u64, out: &mut [u8], at: usize) -> usize
-    requires { ⌜ at + length (numbers (now letter) a b) ≤ length (now out) ⌝ }
-    ensures ends { λ r. ⌜ r ≡ at + length (numbers (now (letter .entry)) a b) ⌝ }
-    ensures says { λ _. ⌜ now (out .exit) ≡ placed (now (out .entry)) at (numbers (now (letter .entry)) a b) ⌝ }
+// Two numbers, a blank between them, behind some bytes.
+fn put_two(begin: &[u8], first: u64, second: u64, out: &mut [u8], at: usize) -> usize
+    requires { ⌜ at + length (numbers (now begin) first second) ≤ length (now out) ⌝ }
+    ensures ends { λ r. ⌜ r ≡ at + length (numbers (now (begin .entry)) first second) ⌝ }
+    ensures says { λ _. ⌜ now (out .exit) ≡ placed (now (out .entry)) at (numbers (now (begin .entry)) first second) ⌝ }
 {
-    let i = text::put_bytes(letter, out, at);
-    let j = text::put_decimal(a, out, i);
-    let k = text::put_bytes(b" ", out, j);
-    let l = text::put_decimal(b, out, k);
-    text::put_bytes(b"\n", out, l)
+    let mut end = text::put_bytes(begin, out, at);
+    end = text::put_decimal(first, out, end);
+    end = text::put_bytes(b" ", out, end);
+    end = text::put_decimal(second, out, end);
+    text::put_bytes(b"\n", out, end)
 }

@@ -1,13 +1,13 @@
 -- Dates and day numbers, each from the other.
-use Prim.Native.Nat.{ℕ, zero, suc, _+_, _-_, _*_, _/_, _%_, _≤_, _<_}
+use Prim.Native.Nat.{ℕ, suc, _+_, _-_, _*_, _/_, _%_, _≤_, _<_}
 use native.Mathlib.Omega.{arith}
-use borrow.Author.Tests.{leb-true, leb-false, ltb-true, ltb-false, le-leb, lt-leb, lt-ltb, le-ltb}
+use borrow.Author.Tests.{leb-true, ltb-true, le-leb, lt-leb, lt-ltb, le-ltb}
 use mathlib.Core.Path.{_≡_, refl, sym, ap, ap₂, _∙_}
-use mathlib.Core.Bool.{Bool, true, false, cond, _&&_, true≢false}
+use mathlib.Core.Bool.{Bool, true, false, _&&_, true≢false}
 use lib.Dec.{leb, ltb}
 use Rattle.calendar.specs.declared.Fields.{Fields}
 use Rattle.calendar.specs.Gregorian.{leap?, year-length, month-length, days-of-years, days-of-months, day-number, date?, time?, exists?}
-use Rattle.calendar.specs.Instants.{last-within, years-before, months-before, elapsed, fields-on}
+use Rattle.calendar.specs.Instants.{years-before, months-before, elapsed, fields-on}
 use Rattle.calendar.proofs.Counting.{days-formula-counts, days-step, grows-on, last-is, last-bound, last-low, last-high}
 
 and-both : (a b : Bool) → a && b ≡ true → (a ≡ true) × (b ≡ true)
@@ -63,9 +63,20 @@ pub is-time : (h m s : ℕ) → TimeIs h m s → time? h m s ≡ true
 unfolding time?
 is-time h m s w = rw (lt-ltb h 24 (w .hours), lt-ltb m 60 (w .minutes)) (lt-ltb s 60 (w .seconds))
 
+-- a date and a time of day that exist
+module _ (f : Fields) (e : exists? f ≡ true) where
+  both : (date? (f .year) (f .month) (f .day) ≡ true) × (time? (f .hour) (f .minute) (f .second) ≡ true)
+  both = and-both (date? (f .year) (f .month) (f .day)) (time? (f .hour) (f .minute) (f .second)) e
+
+  pub date-of : DateIs (f .year) (f .month) (f .day)
+  date-of = date-is (f .year) (f .month) (f .day) (both .0)
+
+  pub time-of : TimeIs (f .hour) (f .minute) (f .second)
+  time-of = time-is (f .hour) (f .minute) (f .second) (both .1)
+
 -- ## Months and years
 
--- "days counted from the lengths of years and months": twelve months make a year
+-- twelve months make a year
 pub twelve-months : (leap : Bool) → days-of-months leap 12 ≡ year-length leap
 twelve-months true = refl
 twelve-months false = refl

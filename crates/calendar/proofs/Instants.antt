@@ -1,16 +1,16 @@
 -- What an instant is of a date, and a date of an instant, as the code finds them.
-use Prim.Native.Nat.{ℕ, _+_, _*_, _/_, _%_, _≤_, _<_}
+use Prim.Native.Nat.{ℕ, _+_, _*_, _/_, _%_, _<_}
 use native.Mathlib.Omega.{arith}
 use mathlib.Core.Path.{_≡_, refl, sym, ap, ap₂, _∙_}
 use borrow.Author.Tests.{not-true, not-false, ltb-true, ltb-false, lt-leb, le-leb}
 use mathlib.Core.Bool.{Bool, true, false, cond, _&&_, not, true≢false}
 use lib.IntN.{ℤ, pos, negsuc}
-use lib.Signed.{ltZ, leZ}
+use lib.Signed.{ltZ}
 use Rattle.calendar.specs.declared.Fields.{Fields}
 use Rattle.calendar.specs.declared.Located.the-variants.{At, Nowhere}
 use Rattle.calendar.specs.declared.Told.the-variants.{On, Outside}
-use Rattle.calendar.specs.Gregorian.{day-number, weekday, date?, time?, exists?}
-use Rattle.calendar.specs.Instants.{elapsed, since-epoch, seconds-of, located, told, in-range?, since-first, fields-on, fields-at, weekday-at}
+use Rattle.calendar.specs.Gregorian.{day-number, weekday, date?, time?}
+use Rattle.calendar.specs.Instants.{since-epoch, seconds-of, located, told, in-range?, since-first, fields-on, fields-at, weekday-at}
 use Rattle.calendar.proofs.Dates.{time-is}
 
 -- a test that was not passed over

@@ -3,3 +3,4 @@ pub mod Dates
 pub mod Signed
 pub mod Instants
 pub mod Demands
+pub mod Back

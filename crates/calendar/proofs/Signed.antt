@@ -1,17 +1,18 @@
 -- Signed seconds: the day by division rounded down, the second of the day, and the seconds from the first day of the range on.
-use Prim.Native.Nat.{ℕ, zero, suc, _+_, _-_, _*_, _/_, _%_, _^_, _≤_, _<_}
+use Prim.Native.Nat.{ℕ, zero, suc, _+_, _-_, _/_, _%_, _^_, _≤_, _<_}
 use native.Mathlib.Omega.{arith}
 use native.Mathlib.Nat.{add-zero}
-use borrow.Author.Tests.{leb-true, leb-false, ltb-true, ltb-false, le-leb, lt-ltb, le-ltb}
-use mathlib.Core.Path.{_≡_, refl, sym, ap, subst, _∙_}
+use borrow.Author.Tests.{leb-true, ltb-true, ltb-false, le-leb, lt-ltb, le-ltb}
+use mathlib.Core.Path.{_≡_, refl, sym, ap, _∙_}
 use mathlib.Core.Bool.{Bool, true, false, cond, _&&_, true≢false}
 use lib.Dec.{T, leb, ltb}
 use lib.IntN.{ℤ, pos, negsuc, negℤ, natAbs, subℕ, _+ℤ_, _-ℤ_}
-use lib.Signed.{mag, ltZ, leZ, nonNeg, quotZ, remZ}
+use lib.Signed.{mag, ltZ, nonNeg, quotZ, remZ}
 use mir.Syntax.{w32, w64}
 use mir.Val.{Fits, SFits, ofZ, toZ}
 use mir.Facts.{toZ-ofZ}
-use Rattle.calendar.specs.Instants.{in-range?, since-first, floor-day, since-epoch}
+use Rattle.calendar.specs.Instants.{in-range?, since-first, since-epoch}
+use Rattle.calendar.specs.helpers.Days.{floor-day}
 
 -- the bits of a number, read again
 abbrev pub again : ℤ → ℤ

@@ -47,11 +47,6 @@ abbrev pub since-first : ℤ → ℕ
 since-first (pos n) = epoch + n
 since-first (negsuc n) = epoch - suc n
 
--- the day, counted from 1 January 1970 and rounded down
-abbrev pub floor-day : ℤ → ℤ
-floor-day (pos n) = pos (n / day-seconds)
-floor-day (negsuc n) = negsuc (n / day-seconds)
-
 -- the whole years before a day, from the first one on; the whole months before a day of a year
 abbrev pub years-before : (day-number : ℕ) → ℕ
 years-before n = last-within days-of-years (last-year - first-year) n

@@ -1,2 +1,3 @@
 pub mod Gregorian
 pub mod Instants
+pub mod helpers

@@ -4,7 +4,8 @@ ghost use mathlib.Core.Bool.{true};
 ghost use Prim.Native.Nat.{_+_, _*_, _/_, _%_, _≤_, _<_};
 ghost use Rattle.calendar.specs.Gregorian.{leap?, month-length, days-of-years, days-of-months, day-number, date?, time?};
 ghost use Rattle.calendar.specs.Instants.{located, told, in-range?, since-first, since-epoch};
-ghost use Rattle.calendar.specs.Instants.{floor-day, years-before, months-before, fields-on};
+ghost use Rattle.calendar.specs.Instants.{years-before, months-before, fields-on};
+ghost use Rattle.calendar.specs.helpers.Days.{floor-day};
 
 pub struct Fields {
     pub year: u32,

@@ -2,7 +2,7 @@
 use mathlib.Core.Path.{_≡_, refl, sym, _∙_, ap, ap₂, subst}
 use mathlib.Core.Bool.{Bool, true, false, _&&_, _||_}
 use mathlib.Core.List.{List, [], _∷_, _++_, append-assoc, append-nil}
-use Prim.Native.Nat.{ℕ, zero, suc, _+_, _-_, _*_, _<_, _≤_}
+use Prim.Native.Nat.{ℕ, zero, suc, _+_, _*_, _<_, _≤_}
 use native.Mathlib.Omega.{arith}
 use lib.Dec.{ltb}
 use lib.ListN.{length, take, drop, length-drop, take-append-drop}
@@ -13,7 +13,8 @@ use Rattle.numerals.proofs.Digits.{split, glyph-below, glyph-above}
 use Rattle.numerals.proofs.Demands as Numerals
 use Rattle.framing.specs.Grammar as G
 use Rattle.framing.specs.Grammar.{Many, Some, Size, Line, Chunk, Chunks, Body, valueFrom}
-use Rattle.chunk_writer.specs.Writing.{chunk, end, framed, joined, chunks-in, chunks-of}
+use Rattle.grammar.specs.Text.{joined}
+use Rattle.chunk_writer.specs.Writing.{chunk, end, framed, chunks-in, chunks-of}
 
 -- ## Sizes
 inside : (lo hi b : ℕ) → lo ≤ b → b ≤ hi → within lo hi b ≡ true
@@ -32,12 +33,15 @@ digit-hex b h k = first (within 48 57 b) (within 65 70 b || within 97 102 b) (in
 
 capital-hex : (b : ℕ) → 65 ≤ b → b ≤ 70 → hex? b ≡ true
 unfolding hex?
-capital-hex b h k = second (within 48 57 b) (within 65 70 b || within 97 102 b) (first (within 65 70 b) (within 97 102 b) (inside 65 70 b h k))
+capital-hex b h k = second (within 48 57 b) (within 65 70 b || within 97 102 b)
+    (first (within 65 70 b) (within 97 102 b) (inside 65 70 b h k))
 
 glyph-hex : (d : ℕ) → d < 16 → hex? (glyph d) ≡ true
 glyph-hex d h = split (ltb d 10)
-    (λ e. digit-hex (glyph d) (omega (arith, glyph-below d (ltb-true d 10 e))) (omega (arith, glyph-below d (ltb-true d 10 e), ltb-true d 10 e)))
-    (λ e. capital-hex (glyph d) (omega (arith, glyph-above d (ltb-false d 10 e), ltb-false d 10 e)) (omega (arith, glyph-above d (ltb-false d 10 e))))
+    (λ e. digit-hex (glyph d) (omega (arith, glyph-below d (ltb-true d 10 e)))
+    (omega (arith, glyph-below d (ltb-true d 10 e), ltb-true d 10 e)))
+    (λ e. capital-hex (glyph d) (omega (arith, glyph-above d (ltb-false d 10 e), ltb-false d 10 e))
+    (omega (arith, glyph-above d (ltb-false d 10 e))))
 
 many : (p : ℕ → Bool) (xs : List ℕ) → every p xs ≡ true → Many p xs
 many p [] h = G.none
@@ -92,7 +96,8 @@ unfolding framed joined
 chunks-then {c} {d} [] cs none = subst (Body (c ++ end)) (sym (append-nil d)) (G.body cs end-line G.none)
 chunks-then {c} {d} (xs ∷ pieces) cs (more h m ps) =
     subst (λ (z : List ℕ). Body z (d ++ (xs ++ joined pieces))) (append-assoc c (chunk xs) (framed pieces))
-    (subst (Body ((c ++ chunk xs) ++ framed pieces)) (append-assoc d xs (joined pieces)) (chunks-then pieces (G.more cs (chunk-is xs h m)) ps))
+    (subst (Body ((c ++ chunk xs) ++ framed pieces)) (append-assoc d xs (joined pieces))
+    (chunks-then pieces (G.more cs (chunk-is xs h m)) ps))
 
 pub framed-body : (pieces : List (List ℕ)) → Pieces pieces → Body (framed pieces) (joined pieces)
 framed-body pieces ps = chunks-then pieces G.none ps

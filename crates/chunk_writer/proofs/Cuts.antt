@@ -1,7 +1,7 @@
 -- How a body is cut, and how long its frame is.
 use mathlib.Core.Path.{_≡_, refl, sym, _∙_, ap, ap₂}
 use mathlib.Core.List.{List, [], _∷_, _++_}
-use Prim.Native.Nat.{ℕ, zero, suc, _+_, _-_, _*_, _/_, _%_, _^_, _<_, _≤_}
+use Prim.Native.Nat.{ℕ, zero, suc, _+_, _*_, _/_, _%_, _^_, _<_, _≤_}
 use native.Mathlib.Nat.{suc-mul, div-add-mod', div-le-self, mod-lt, mul-le-mul}
 use native.Mathlib.Omega.{arith}
 use lib.ListN.{length, take, drop, length-append, length-drop, drop-of-length-le}
@@ -106,7 +106,13 @@ module _ (n : ℕ) (pos : 0 < n) where
       omega (
         arith,
         full (length xs % n) (length (numeral 16 (length xs % n)) + 4) (length xs / n)
-            (λ ys e. omega (arith, last-short ys (omega arith) (omega (arith, mod-lt (length xs) {m = n} pos)), ap (λ (k : ℕ). length (numeral 16 k)) e)) xs (whole-split xs),
+            (λ ys e.
+            omega (
+              arith,
+              last-short ys (omega arith) (omega (arith, mod-lt (length xs) {m = n} pos)),
+              ap (λ (k : ℕ). length (numeral 16 k)) e,
+            ))
+            xs (whole-split xs),
       )
 
 -- ## Lengths fit

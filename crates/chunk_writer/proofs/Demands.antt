@@ -1,7 +1,8 @@
 -- What the writer's frame is, over the grammar of chunked bodies, and that it reads back. The words quoted are those of document 01.
 use mathlib.Core.Path.{_≡_, refl, _∙_, ap, subst}
-use mathlib.Core.List.{List, [], _∷_, _++_}
-use Prim.Native.Nat.{ℕ, _+_, _<_, _≤_}
+use mathlib.Core.List.{List, [], _++_}
+use Prim.Native.Nat.{ℕ, _<_, _≤_}
+use Prim.Native.Char.{code}
 use native.Mathlib.Omega.{arith}
 use lib.ListN.{length, getD, take, drop}
 use lib.Seq.{take-length}
@@ -13,7 +14,8 @@ use Rattle.framing.specs.Answer.{whole}
 use Rattle.framing.specs.Demand.{BeginsWhole}
 use Rattle.framing.specs.Reading.{decode, decoded}
 use Rattle.framing.proofs.Demands as Framing
-use Rattle.chunk_writer.specs.Writing.{BODY_LIMIT, chunk, end, framed, joined, chunks-in, chunks-of, frame}
+use Rattle.grammar.specs.Text.{bytes, joined}
+use Rattle.chunk_writer.specs.Writing.{BODY_LIMIT, chunk, end, framed, chunks-in, chunks-of, frame}
 use Rattle.chunk_writer.proofs.Cuts as Cuts
 use Rattle.chunk_writer.proofs.Bodies.{size-is, framed-body, pieces-of, joined-cut}
 use Rattle.chunk_writer.proofs.ReadsBack.{reads-framed}
@@ -24,11 +26,12 @@ pub size : (n : ℕ) → Size (numeral 16 n) n
 size = size-is
 
 -- the first of them is `0` only where the size is 0
-pub no-leading-zero : (n : ℕ) → getD (numeral 16 n) 0 0 ≡ 48 → n ≡ 0
+pub no-leading-zero : (n : ℕ) → getD (numeral 16 n) 0 0 ≡ code "0" → n ≡ 0
 no-leading-zero n = Numerals.first-digit 16 n (omega arith) (omega arith)
 
 -- ## Cuts
--- "cuts off full chunks, then what remains": where n bytes or more are left, the first n of them are a chunk; fewer are one chunk, or none
+-- "cuts off full chunks, then what remains": where n bytes or more are left, the first n of them are a chunk; fewer are one chunk,
+-- or none
 pub cuts : (n : ℕ) (xs : List ℕ) → 0 < n → 0 < length xs → frame xs n ≡ chunk (take n xs) ++ frame (drop n xs) n
 cuts = Cuts.frame-some
 
@@ -41,7 +44,8 @@ pub frames : (body : List ℕ) (n : ℕ) → Many octet? body → 0 < n → Body
 unfolding frame
 frames body n m p = subst (Body (framed (chunks-of n body))) (joined-cut n body p) (framed-body (chunks-of n body) (pieces-of n body p m))
 
--- it reads back, in every room that holds the body, at every chunk length that the writer accepts: whole, all of it taken, the body's length
+-- it reads back, in every room that holds the body, at every chunk length that the writer accepts: whole, all of it taken, the
+-- body's length
 pub reads-back : (r : ℕ) (body : List ℕ) (n : ℕ) → Many octet? body → 0 < n → length body ≤ BODY_LIMIT → length body ≤ r
     → decode r (frame body n) ≡ whole (length (frame body n)) (length body)
 unfolding frame
@@ -61,7 +65,6 @@ writes-back r body n m p small l =
     (subst (λ (z : List ℕ). Body z (w .0)) (take-length (frame body n)) (w .1 .body)) (frames body n m p)
 
 -- "`hello` at length 2 makes 25 bytes"
-pub hello : frame (104 ∷ 101 ∷ 108 ∷ 108 ∷ 111 ∷ []) 2
-    ≡ 50 ∷ 13 ∷ 10 ∷ 104 ∷ 101 ∷ 13 ∷ 10 ∷ 50 ∷ 13 ∷ 10 ∷ 108 ∷ 108 ∷ 13 ∷ 10 ∷ 49 ∷ 13 ∷ 10 ∷ 111 ∷ 13 ∷ 10 ∷ 48 ∷ 13 ∷ 10 ∷ 13 ∷ 10 ∷ []
+pub hello : (frame (bytes "hello") 2 ≡ bytes "2\r\nhe\r\n2\r\nll\r\n1\r\no\r\n0\r\n\r\n") × (length (frame (bytes "hello") 2) ≡ 25)
 unfolding frame chunks-of chunks-in framed chunk numeral digits width width-in glyph
-hello = refl
+hello = (refl, refl)

@@ -21,7 +21,8 @@ use Rattle.framing.specs.Grammar.{Many, valueFrom}
 use Rattle.framing.specs.helpers.Scan.{Verdict, ended, stop, note, scan, answer}
 use Rattle.framing.specs.helpers.Machine.{lineStep, lineLive, lineEnds, leaveLine, enterChunk, step, live, done, pastRoom, over}
 use Rattle.framing.specs.Reading.{judge, decode}
-use Rattle.chunk_writer.specs.Writing.{chunk, end, framed, joined, frame}
+use Rattle.grammar.specs.Text.{joined}
+use Rattle.chunk_writer.specs.Writing.{chunk, end, framed}
 use Rattle.chunk_writer.proofs.Cuts.{hex-short}
 use Rattle.chunk_writer.proofs.Bodies as Bodies
 use Rattle.chunk_writer.proofs.Bodies.{Pieces, size-many, size-value}
@@ -72,11 +73,13 @@ quiet-line : (r t : ℕ) → judge r (Line First 0 t) ≡ none
 unfolding judge live lineLive done over pastRoom
 quiet-line r t = refl
 
-quiet-ends : (r t : ℕ) → (judge r (DataCr t) ≡ none) × (judge r (DataLf t) ≡ none) × (judge r (EndLf t) ≡ none) × (judge r (Trail Start 0 t) ≡ none)
+quiet-ends : (r t : ℕ)
+    → (judge r (DataCr t) ≡ none) × (judge r (DataLf t) ≡ none) × (judge r (EndLf t) ≡ none) × (judge r (Trail Start 0 t) ≡ none)
 unfolding judge live done over
 quiet-ends r t = (refl, refl, refl, refl)
 
-step-ends : (t : ℕ) → (step (DataCr t) 13 ≡ DataLf t) × (step (DataLf t) 10 ≡ Line First 0 t) × (step (Trail Start 0 t) 13 ≡ EndLf t) × (step (EndLf t) 10 ≡ Done t)
+step-ends : (t : ℕ) → (step (DataCr t) 13 ≡ DataLf t) × (step (DataLf t) 10 ≡ Line First 0 t)
+    × (step (Trail Start 0 t) 13 ≡ EndLf t) × (step (EndLf t) 10 ≡ Done t)
 unfolding step
 step-ends t = (refl, refl, refl, refl)
 
@@ -107,7 +110,8 @@ module _ (r : ℕ) where
   then : (s s′ s″ : State) (xs ys : List ℕ) → Skips s xs s′ → Skips s′ ys s″ → Skips s (xs ++ ys) s″
   then s s′ s″ xs ys f g i zs =
       let e : i + length xs + length ys ≡ i + length (xs ++ ys) = omega (arith, length-append xs ys) in
-      ap (scan step (judge r) s i) (append-assoc xs ys zs) ∙ f i (ys ++ zs) ∙ g (i + length xs) zs ∙ ap (λ (j : ℕ). scan step (judge r) s″ j zs) e
+      ap (scan step (judge r) s i) (append-assoc xs ys zs) ∙ f i (ys ++ zs) ∙ g (i + length xs) zs
+      ∙ ap (λ (j : ℕ). scan step (judge r) s″ j zs) e
 
   byte : (s s′ s″ : State) (b : ℕ) (xs : List ℕ) → step s b ≡ s′ → judge r s′ ≡ none → Skips s′ xs s″ → Skips s (b ∷ xs) s″
   byte s s′ s″ b xs e q f i ys =
@@ -129,7 +133,8 @@ module _ (r : ℕ) where
   skip-digits (d ∷ ds) v k t (G.more e m) h l =
       let n : suc k + length ds ≡ k + suc (length ds) = omega arith in
       subst (λ (j : ℕ). Skips (Line (Size v) k t) (d ∷ ds) (Line (Size (valueFrom v (d ∷ ds))) j t)) n
-      (byte (Line (Size v) k t) (Line (Size (v * 16 + hex-value d)) (suc k) t) (Line (Size (valueFrom v (d ∷ ds))) (suc k + length ds) t) d ds
+      (byte (Line (Size v) k t) (Line (Size (v * 16 + hex-value d)) (suc k) t)
+      (Line (Size (valueFrom v (d ∷ ds))) (suc k + length ds) t) d ds
       (step-size v k t d e) (quiet-size r (v * 16 + hex-value d) (suc k) t (omega arith) (omega (arith, grows (v * 16 + hex-value d) ds)))
       (skip-digits ds (v * 16 + hex-value d) (suc k) t m (omega arith) l))
 
@@ -145,30 +150,37 @@ module _ (r : ℕ) where
 
   skip-data : (xs : List ℕ) (m t : ℕ) → Many octet? xs → length xs ≡ suc m → Skips (Data m t) xs (DataCr t)
   skip-data [] m t G.none h = absurd (omega arith)
-  skip-data (b ∷ []) zero t (G.more e G.none) h = byte (Data 0 t) (DataCr t) (DataCr t) b [] (step-last t b e) (quiet-ends r t .0) (stay (DataCr t))
+  skip-data (b ∷ []) zero t (G.more e G.none) h = byte (Data 0 t) (DataCr t) (DataCr t) b [] (step-last t b e) (quiet-ends r t .0)
+      (stay (DataCr t))
   skip-data (b ∷ []) (suc m) t (G.more e G.none) h = absurd (omega arith)
   skip-data (b ∷ c ∷ xs) zero t (G.more e (G.more e′ ms)) h = absurd (omega arith)
   skip-data (b ∷ c ∷ xs) (suc m) t (G.more e (G.more e′ ms)) h =
-      byte (Data (suc m) t) (Data m t) (DataCr t) b (c ∷ xs) (step-data m t b e) (quiet-data r m t) (skip-data (c ∷ xs) m t (G.more e′ ms) (omega arith))
+      byte (Data (suc m) t) (Data m t) (DataCr t) b (c ∷ xs) (step-data m t b e) (quiet-data r m t)
+      (skip-data (c ∷ xs) m t (G.more e′ ms) (omega arith))
 
   skip-chunk : (xs : List ℕ) (t : ℕ) → 0 < length xs → length xs < 2 ^ 64 → Many octet? xs → t + length xs ≤ r
       → Skips (Line First 0 t) (chunk xs) (Line First 0 (t + length xs))
   unfolding chunk
   skip-chunk xs t z small m l =
       let v : valueFrom 0 (numeral 16 (length xs)) ≡ length xs = size-value (length xs) in
-      then (Line First 0 t) (Line (Size (valueFrom 0 (numeral 16 (length xs)))) (length (numeral 16 (length xs))) t) (Line First 0 (t + length xs))
+      then (Line First 0 t) (Line (Size (valueFrom 0 (numeral 16 (length xs)))) (length (numeral 16 (length xs))) t)
+      (Line First 0 (t + length xs))
       (numeral 16 (length xs)) (13 ∷ 10 ∷ (xs ++ (13 ∷ 10 ∷ [])))
       (skip-size (numeral 16 (length xs)) t (Numerals.some-digit 16 (length xs) (omega arith)) (size-many (length xs))
       (omega (arith, hex-short (length xs) small)) (omega arith))
-      (byte (Line (Size (valueFrom 0 (numeral 16 (length xs)))) (length (numeral 16 (length xs))) t) (LineFeed (length xs) t) (Line First 0 (t + length xs))
+      (byte (Line (Size (valueFrom 0 (numeral 16 (length xs)))) (length (numeral 16 (length xs))) t) (LineFeed (length xs) t)
+      (Line First 0 (t + length xs))
       13 (10 ∷ (xs ++ (13 ∷ 10 ∷ [])))
-      (step-line-cr (valueFrom 0 (numeral 16 (length xs))) (length (numeral 16 (length xs))) t ∙ ap (λ (w : ℕ). LineFeed w t) v) (quiet-feed r (length xs) t)
+      (step-line-cr (valueFrom 0 (numeral 16 (length xs))) (length (numeral 16 (length xs))) t ∙ ap (λ (w : ℕ). LineFeed w t) v)
+      (quiet-feed r (length xs) t)
       (byte (LineFeed (length xs) t) (Data (length xs - 1) (t + length xs)) (Line First 0 (t + length xs)) 10 (xs ++ (13 ∷ 10 ∷ []))
       (step-line-lf (length xs) t ∙ enter-data (length xs) t z) (quiet-data r (length xs - 1) (t + length xs))
       (then (Data (length xs - 1) (t + length xs)) (DataCr (t + length xs)) (Line First 0 (t + length xs)) xs (13 ∷ 10 ∷ [])
       (skip-data xs (length xs - 1) (t + length xs) m (omega arith))
-      (byte (DataCr (t + length xs)) (DataLf (t + length xs)) (Line First 0 (t + length xs)) 13 (10 ∷ []) (step-ends (t + length xs) .0) (quiet-ends r (t + length xs) .1)
-      (byte (DataLf (t + length xs)) (Line First 0 (t + length xs)) (Line First 0 (t + length xs)) 10 [] (step-ends (t + length xs) .1) (quiet-line r (t + length xs))
+      (byte (DataCr (t + length xs)) (DataLf (t + length xs)) (Line First 0 (t + length xs)) 13 (10 ∷ []) (step-ends (t + length xs) .0)
+      (quiet-ends r (t + length xs) .1)
+      (byte (DataLf (t + length xs)) (Line First 0 (t + length xs)) (Line First 0 (t + length xs)) 10 [] (step-ends (t + length xs) .1)
+      (quiet-line r (t + length xs))
       (stay (Line First 0 (t + length xs))))))))
 
   zero-hex : hex? 48 ≡ true
@@ -177,7 +189,8 @@ module _ (r : ℕ) where
 
   skip-end : (t : ℕ) → t ≤ r → Skips (Line First 0 t) (48 ∷ 13 ∷ 10 ∷ 13 ∷ []) (EndLf t)
   skip-end t l =
-      byte (Line First 0 t) (Line (Size 0) 1 t) (EndLf t) 48 (13 ∷ 10 ∷ 13 ∷ []) (step-first 48 t zero-hex) (quiet-size r 0 1 t (omega arith) (omega arith))
+      byte (Line First 0 t) (Line (Size 0) 1 t) (EndLf t) 48 (13 ∷ 10 ∷ 13 ∷ []) (step-first 48 t zero-hex)
+      (quiet-size r 0 1 t (omega arith) (omega arith))
       (byte (Line (Size 0) 1 t) (LineFeed 0 t) (EndLf t) 13 (10 ∷ 13 ∷ []) (step-line-cr 0 1 t) (quiet-feed r 0 t)
       (byte (LineFeed 0 t) (Trail Start 0 t) (EndLf t) 10 (13 ∷ []) (step-line-lf 0 t ∙ enter-last t) (quiet-ends r t .3)
       (byte (Trail Start 0 t) (EndLf t) (EndLf t) 13 [] (step-ends t .2) (quiet-ends r t .2) (stay (EndLf t)))))
@@ -189,7 +202,8 @@ module _ (r : ℕ) where
       ∙ ap (λ (v : Option Verdict). note (i + 4) v (scan step (judge r) (Done t) (suc (i + 4)) [])) (ends r t)
 
   scan-framed : (pieces : List (List ℕ)) (t i j : ℕ) → Pieces pieces → length (joined pieces) < 2 ^ 64 → t + length (joined pieces) ≤ r
-      → i + length (framed pieces) ≡ suc j → scan step (judge r) (Line First 0 t) i (framed pieces) ≡ stop j (ended (t + length (joined pieces)))
+      → i + length (framed pieces) ≡ suc j
+      → scan step (judge r) (Line First 0 t) i (framed pieces) ≡ stop j (ended (t + length (joined pieces)))
   unfolding framed joined
   scan-framed [] t i j Bodies.none small l e =
       let n : i + 4 ≡ j = omega arith in
@@ -199,7 +213,8 @@ module _ (r : ℕ) where
       let n : length (xs ++ joined pieces) ≡ length xs + length (joined pieces) = length-append xs (joined pieces) in
       let u : t + length xs + length (joined pieces) ≡ t + length (xs ++ joined pieces) = omega arith in
       skip-chunk xs t z (omega arith) m (omega arith) i (framed pieces)
-      ∙ scan-framed pieces (t + length xs) (i + length (chunk xs)) j ps (omega arith) (omega arith) (omega (arith, length-append (chunk xs) (framed pieces)))
+      ∙ scan-framed pieces (t + length xs) (i + length (chunk xs)) j ps (omega arith) (omega arith)
+      (omega (arith, length-append (chunk xs) (framed pieces)))
       ∙ ap (λ (k : ℕ). stop j (ended k)) u
 
   framed-some-byte : (pieces : List (List ℕ)) → 0 < length (framed pieces)

@@ -1,11 +1,13 @@
 // Writes chunked bodies: RFC 2616 3.6.1 in the form of document 01.
 ghost use mathlib.Core.Path.{_≡_};
-ghost use Prim.Native.Nat.{ℕ, _+_, _<_, _≤_, min};
+ghost use Prim.Native.Nat.{_+_, _<_, _≤_};
 ghost use lib.ListN.{length};
 ghost use Rattle.octets.specs.Writing.{written};
 ghost use Rattle.text.specs.Placing.{placed};
-ghost use Rattle.chunk_writer.specs.Writing.{BODY_LIMIT as bodyLimit, chunk, end, frame, front, frame-writing, frame-output};
-use octets::Refusal;
+ghost use Rattle.chunk_writer.specs.Writing.{BODY_LIMIT as bodyLimit, chunk, end, frame, frame-writing, frame-output};
+use octets::BODY_TOO_LARGE;
+use octets::OUT_OF_RANGE;
+use octets::OUTPUT_TOO_SHORT;
 use octets::Written;
 
 // The largest body that is framed.
@@ -23,67 +25,61 @@ pub fn encode(body: &[u8], chunk_len: usize, out: &mut [u8]) -> Written
     ensures writes { λ _. ⌜ now (out .exit) ≡ frame-output (now (body .entry)) «chunk_len» (now (out .entry)) ⌝ }
 {
     if chunk_len == 0 {
-        return refused(9);
+        return octets::unwritten(OUT_OF_RANGE);
     }
     if body.len() > BODY_LIMIT {
-        return refused(7);
+        return octets::unwritten(BODY_TOO_LARGE);
     }
-    let n = frame_len(body, chunk_len);
-    if out.len() < n {
-        return refused(8);
+    let len = frame_len(body, chunk_len);
+    if out.len() < len {
+        return octets::unwritten(OUTPUT_TOO_SHORT);
     }
     put_frame(body, chunk_len, out);
-    Written::Length(n)
-}
-
-fn refused(number: u8) -> Written
-    ensures { λ r. ⌜ r ≡ Written.Refused (record { number = number; place = 0 }) ⌝ }
-{
-    Written::Refused(Refusal { number, place: 0 })
+    Written::Length(len)
 }
 
 // How many bytes the frame has.
-fn frame_len(body: &[u8], n: usize) -> usize
-    requires { ⌜ (0 < n) × (length (now body) ≤ bodyLimit) ⌝ }
-    ensures { λ r. ⌜ r ≡ length (frame (now (body .entry)) n) ⌝ }
+fn frame_len(body: &[u8], chunk_len: usize) -> usize
+    requires { ⌜ (0 < «chunk_len») × (length (now body) ≤ bodyLimit) ⌝ }
+    ensures { λ r. ⌜ r ≡ length (frame (now (body .entry)) «chunk_len») ⌝ }
 {
-    let full = body.len() / n;
-    let rest = body.len() % n;
-    let len = body.len() + full * (numerals::hex_width(n as u64) + CHUNK_ENDS) + END;
+    let full = body.len() / chunk_len;
+    let rest = body.len() % chunk_len;
+    let len = body.len() + full * (numerals::hex_width(chunk_len as u64) + CHUNK_ENDS) + END;
     if rest == 0 {
         return len;
     }
     len + numerals::hex_width(rest as u64) + CHUNK_ENDS
 }
 
-fn put_frame(body: &[u8], n: usize, out: &mut [u8])
-    requires { ⌜ (0 < n) × (length (frame (now body) n) ≤ length (now out)) ⌝ }
-    ensures { λ _. ⌜ now (out .exit) ≡ front (frame (now (body .entry)) n) (now (out .entry)) ⌝ }
+fn put_frame(body: &[u8], chunk_len: usize, out: &mut [u8])
+    requires { ⌜ (0 < «chunk_len») × (length (frame (now body) «chunk_len») ≤ length (now out)) ⌝ }
+    ensures { λ _. ⌜ now (out .exit) ≡ placed (now (out .entry)) 0 (frame (now (body .entry)) «chunk_len») ⌝ }
 {
-    let mut i = 0;
-    let mut o = 0;
-    while i < body.len() {
-        let k = octets::least(n, body.len() - i);
-        o = put_chunk(&body[i..i + k], out, o);
-        i += k;
+    let mut taken = 0;
+    let mut at = 0;
+    while taken < body.len() {
+        let size = octets::least(chunk_len, body.len() - taken);
+        at = put_chunk(&body[taken..taken + size], out, at);
+        taken += size;
     }
-    put_end(out, o);
+    put_end(out, at);
 }
 
-// Puts the chunk of these bytes at `o`, and gives the place behind it.
-fn put_chunk(bytes: &[u8], out: &mut [u8], o: usize) -> usize
-    requires { ⌜ o + length (chunk (now bytes)) ≤ length (now out) ⌝ }
-    ensures ends { λ r. ⌜ r ≡ o + length (chunk (now (bytes .entry))) ⌝ }
-    ensures writes { λ _. ⌜ now (out .exit) ≡ placed (now (out .entry)) o (chunk (now (bytes .entry))) ⌝ }
+// Puts the chunk of this part of the body at `at`, and gives the place behind it.
+fn put_chunk(part: &[u8], out: &mut [u8], at: usize) -> usize
+    requires { ⌜ at + length (chunk (now part)) ≤ length (now out) ⌝ }
+    ensures ends { λ r. ⌜ r ≡ at + length (chunk (now (part .entry))) ⌝ }
+    ensures writes { λ _. ⌜ now (out .exit) ≡ placed (now (out .entry)) at (chunk (now (part .entry))) ⌝ }
 {
-    let a = text::put_hex(bytes.len() as u64, out, o);
-    let b = text::put_bytes(b"\r\n", out, a);
-    let c = text::put_bytes(bytes, out, b);
-    text::put_bytes(b"\r\n", out, c)
+    let size_end = text::put_hex(part.len() as u64, out, at);
+    let data_at = text::put_bytes(b"\r\n", out, size_end);
+    let data_end = text::put_bytes(part, out, data_at);
+    text::put_bytes(b"\r\n", out, data_end)
 }
 
-fn put_end(out: &mut [u8], o: usize) -> usize
-    ensures { λ _. ⌜ now (out .exit) ≡ placed (now (out .entry)) o end ⌝ }
+fn put_end(out: &mut [u8], at: usize) -> usize
+    ensures { λ _. ⌜ now (out .exit) ≡ placed (now (out .entry)) at end ⌝ }
 {
-    text::put_bytes(b"0\r\n\r\n", out, o)
+    text::put_bytes(b"0\r\n\r\n", out, at)
 }

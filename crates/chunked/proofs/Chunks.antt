@@ -19,6 +19,9 @@ use Rattle.framing.proofs.Cases.{false-true}
 use Rattle.framing.proofs.Scanning.{run-live}
 use Rattle.framing.proofs.Lines.{lineRun, line-sound, line-dead, line-no-cr, line-ends-live}
 use Rattle.framing.proofs.Rooms.{sizeOf, ends-size, size-grows}
+use Rattle.octets.specs.Same.{same?}
+use Rattle.octets.proofs.SameBytes.{same-list}
+use Rattle.chunked.specs.declared.LastLine.{LastLine}
 use Rattle.chunked.specs.declared.Found.the-variants as Found
 use Rattle.chunked.specs.helpers.Passes.{At, LineAt, LineRead, Known, CrlfAt, ChunkAt, ChunkRead}
 use Rattle.chunked.proofs.Passes.{at-next, at-more, at-refuse, data-fits}
@@ -55,13 +58,20 @@ module _ {room : ℕ} {xs : List ℕ} where
   line-on {t} {i} {w} {v} at pos l fits =
       let p : LinePos = lineRun First (l .text) in
       let n : length (l .text) + 2 ≡ w
-      = omega (arith, length-take-le w (drop i xs) (omega (arith, l .inside, length-drop i xs)), ap length (l .split), length-append (l .text) (13 ∷ 10 ∷ [])) in
+      = omega (
+        arith,
+        length-take-le w (drop i xs) (omega (arith, l .inside, length-drop i xs)),
+        ap length (l .split),
+        length-append (l .text) (13 ∷ 10 ∷ []),
+      ) in
       let e : drop i xs ≡ l .text ++ (13 ∷ 10 ∷ drop w (drop i xs))
-      = sym (take-append-drop w (drop i xs)) ∙ ap (λ (z : List ℕ). z ++ drop w (drop i xs)) (l .split) ∙ append-assoc (l .text) (13 ∷ 10 ∷ []) (drop w (drop i xs)) in
+      = sym (take-append-drop w (drop i xs)) ∙ ap (λ (z : List ℕ). z ++ drop w (drop i xs)) (l .split)
+      ∙ append-assoc (l .text) (13 ∷ 10 ∷ []) (drop w (drop i xs)) in
       let s : lineEnds (lineRun First (l .text)) ≡ some v = line-sound (l .line) in
       let m : 0 + length (l .text) ≡ length (l .text) = omega arith in
       let here : At room xs (Line (lineRun First (l .text)) (0 + length (l .text)) t) (i + length (l .text))
-      = walk (l .text) (13 ∷ 10 ∷ drop w (drop i xs)) First 0 t i at e (line-ends-live (lineRun First (l .text)) v s) (omega (arith, l .short))
+      = walk (l .text) (13 ∷ 10 ∷ drop w (drop i xs)) First 0 t i at e (line-ends-live (lineRun First (l .text)) v s)
+      (omega (arith, l .short))
       (omega (arith, ends-size (lineRun First (l .text)) v s)) in
       let cr : getD xs (i + length (l .text)) 0 ≡ 13 = at-end 13 (10 ∷ drop w (drop i xs)) e in
       let z : i + length (l .text) + 1 + 1 ≡ i + w = omega arith in
@@ -71,10 +81,14 @@ module _ {room : ℕ} {xs : List ℕ} where
       (Turns.line-cr (getD xs (i + length (l .text)) 0) (lineRun First (l .text)) (0 + length (l .text)) t cr
       ∙ Turns.leave-some v t (lineEnds (lineRun First (l .text))) s) (Turns.quiet-feed room v t))
       (omega (arith, l .inside))
-      (Turns.feed-lf (getD xs (i + length (l .text) + 1) 0) v t (at-next-end e) ∙ Turns.enter-data v t pos) (Turns.quiet-data room (v - 1) (t + v)))
+      (Turns.feed-lf (getD xs (i + length (l .text) + 1) 0) v t (at-next-end e) ∙ Turns.enter-data v t pos)
+      (Turns.quiet-data room (v - 1) (t + v)))
     where
       at-end : (b : ℕ) (r : List ℕ) → drop i xs ≡ l .text ++ (b ∷ r) → getD xs (i + length (l .text)) 0 ≡ b
-      at-end b r e = sym (getD-drop i xs (length (l .text)) 0) ∙ ap (λ (y : List ℕ). getD y (length (l .text)) 0) e ∙ getD-append-seam (l .text) b r 0
+      at-end b r e =
+          sym (getD-drop i xs (length (l .text)) 0)
+          ∙ ap (λ (y : List ℕ). getD y (length (l .text)) 0) e
+          ∙ getD-append-seam (l .text) b r 0
 
       at-next-end : drop i xs ≡ l .text ++ (13 ∷ 10 ∷ drop w (drop i xs)) → getD xs (i + length (l .text) + 1) 0 ≡ 10
       at-next-end e =
@@ -110,7 +124,8 @@ module _ {room : ℕ} {xs : List ℕ} where
     skip (suc m) t i at h =
         let z : i + 1 + m + 1 ≡ i + suc m + 1 = omega arith in
         subst (At room xs (DataCr t)) z
-        (skip m t (i + 1) (at-next at (omega arith) (Turns.data-more (getD xs i 0) m t (bytes i)) (Turns.quiet-data room m t)) (omega arith))
+        (skip m t (i + 1) (at-next at (omega arith) (Turns.data-more (getD xs i 0) m t (bytes i)) (Turns.quiet-data room m t))
+        (omega arith))
 
     starved : (left m t i : ℕ) → i + left ≡ length xs → left ≤ m → At room xs (Data m t) i → Framing.more ≡ decode room xs
     starved zero m t i e h at = at-more at (omega arith)
@@ -143,16 +158,22 @@ module _ {room : ℕ} {xs : List ℕ} where
 
 -- ## Chunks with one line
 module _ {xs : List ℕ} where
-  pub none-known : Known xs 0 0 0
+  pub none-known : Known xs (record { at = 0; length = 0; size = 0 })
   none-known = record { inside = omega arith; line = λ h. absurd (omega arith) }
 
-  pub chunk-known : {i w v : ℕ} → ChunkAt xs i w v → Known xs i w v
+  pub chunk-known : {i w v : ℕ} → ChunkAt xs i w v → Known xs (record { at = i; length = w; size = v })
   chunk-known {i} {w} {v} c = record { inside = omega (arith, c .end .inside); line = λ _. (c .some, c .line) }
 
   -- the same bytes are the same line
-  pub same-chunk : {p w v i : ℕ} → Known xs p w v → 0 < w → CrlfAt xs (i + (w + v)) → take (p + w - p) (drop p xs) ≡ take (i + w - i) (drop i xs)
-      → ChunkAt xs i w v
-  same-chunk {p} {w} {v} {i} known h end e =
+  pub same-chunk : {last : LastLine} {i : ℕ} → Known xs last → 0 < last .length → CrlfAt xs (i + (last .length + last .size))
+      → same? (take (last .at + last .length - last .at) (drop (last .at) xs)) (take (i + last .length - i) (drop i xs)) ≡ true
+      → ChunkAt xs i (last .length) (last .size)
+  same-chunk {last} {i} known h end s =
+      let p : ℕ = last .at in
+      let w : ℕ = last .length in
+      let v : ℕ = last .size in
+      let e : take (p + w - p) (drop p xs) ≡ take (i + w - i) (drop i xs)
+      = same-list (take (p + w - p) (drop p xs)) (take (i + w - i) (drop i xs)) s in
       let a : w ≡ p + w - p = omega arith in
       let b : i + w - i ≡ w = omega arith in
       let l : (0 < v) × LineAt xs p w v (13 ∷ 10 ∷ []) = known .line h in

@@ -51,12 +51,12 @@ module _ {room : ℕ} {xs : List ℕ} where
   data-total : {m u j : ℕ} → At room xs (Data m u) j → u ≡ length (dataTo xs j) + (m + 1)
   data-total {m} {u} {j} at =
       let h : Past (Data m u) (take j xs) (dataTo xs j) = behind at in
-      omega (arith, h .left, h .inside .total, ap length (h .inside .joined), length-append (h .inside .done) (h .inside .part))
+      omega (arith, h .left, h .inside .total, ap length (h .inside .out-is), length-append (h .inside .done) (h .inside .part))
 
   cr-total : {t e : ℕ} → At room xs (DataCr t) e → t ≡ length (dataTo xs e)
   cr-total {t} {e} at =
       let h : Past (DataCr t) (take e xs) (dataTo xs e) = behind at in
-      omega (arith, h .left, h .inside .total, ap length (h .inside .joined), length-append (h .inside .done) (h .inside .part))
+      omega (arith, h .left, h .inside .total, ap length (h .inside .out-is), length-append (h .inside .done) (h .inside .part))
 
   -- ## The data of some bytes more
   data-add : {s : State} {i : ℕ} (n : ℕ) → At room xs s i → dataTo xs (i + n) ≡ dataTo xs i ++ out step emit s (take n (drop i xs))
@@ -79,7 +79,8 @@ module _ {room : ℕ} {xs : List ℕ} where
       r ∙ ap (λ (l : List ℕ). dataTo xs i ++ l) (no-length (out step emit s (take (j - i) (drop i xs))) z) ∙ append-nil (dataTo xs i)
 
   module _ (bytes : (k : ℕ) → getD xs k 0 < 256) where
-    run-data : {v t j : ℕ} → 0 < v → At room xs (Data (v - 1) t) j → j + v ≤ length xs → dataTo xs (j + v) ≡ dataTo xs j ++ take v (drop j xs)
+    run-data : {v t j : ℕ} → 0 < v → At room xs (Data (v - 1) t) j → j + v ≤ length xs
+        → dataTo xs (j + v) ≡ dataTo xs j ++ take v (drop j xs)
     run-data {v} {t} {j} pos at h =
         data-add v at
         ∙ ap (λ (z : List ℕ). dataTo xs j ++ z)
@@ -114,7 +115,8 @@ module _ (room : ℕ) (xs : List ℕ) {taken len : ℕ} (w : decode room xs ≡ 
   reach {s} {i} at =
       let f : (k : ℕ) × (scan step (judge room) start 0 xs ≡ stop k (ended len)) × (taken ≡ suc k)
       = whole-of (scan step (judge room) start 0 xs) taken len w in
-      let t : Stops step (judge room) start xs (f .0) (ended len) = stop-stops step (judge room) start xs (begins room) (f .0) (ended len) (f .1) in
+      let t : Stops step (judge room) start xs (f .0) (ended len)
+      = stop-stops step (judge room) start xs (begins room) (f .0) (ended len) (f .1) in
       go (f .0) (f .2) t (decLe (suc (f .0)) i)
     where
       go : (k : ℕ) → taken ≡ suc k → Stops step (judge room) start xs k (ended len) → Dec (suc k ≤ i) → i ≤ taken
@@ -127,13 +129,24 @@ module _ (room : ℕ) (xs : List ℕ) {taken len : ℕ} (w : decode room xs ≡ 
       whole-data ∙ no-new taken at (reach at) (omega (arith, line-total at, whole-length, ap length whole-data))
 
 -- ## The lent bytes
-module _ (xs old : List ℕ) where
+module _ {xs old : List ℕ} where
   pub copied-start : Copied xs old old 0 0
   copied-start = record { at = at-start; wrote = refl }
 
   pub copied-length : {new : List ℕ} {i o : ℕ} → Copied xs old new i o → length new ≡ length old
   copied-length {new} {i} {o} h =
-      omega (arith, line-total (h .at), first-fits (h .at), ap length (h .wrote), length-append (dataTo xs i) (drop o old), length-drop o old)
+      omega (
+        arith,
+        line-total (h .at),
+        first-fits (h .at),
+        ap length (h .wrote),
+        length-append (dataTo xs i) (drop o old),
+        length-drop o old,
+      )
+
+  -- what fits into what is left of the room fits behind what is written
+  pub copied-fits : {new : List ℕ} {i o v : ℕ} → Copied xs old new i o → v ≤ length old - o → o + v ≤ length new
+  copied-fits h fits = omega (arith, first-fits (h .at), copied-length h)
 
   -- what is behind a place is as lent
   kept : {new : List ℕ} {i o : ℕ} (v : ℕ) → Copied xs old new i o → drop (o + v) new ≡ drop (o + v) old
@@ -159,7 +172,8 @@ module _ (xs old : List ℕ) where
             ∙ ap (λ (x : List ℕ). take v (drop (i + w) xs) ++ x) (drop-drop v o new ∙ kept v h))
             ∙ sym (append-assoc (dataTo xs i) (take v (drop (i + w) xs)) (drop (o + v) old))
             ∙ ap (λ (x : List ℕ). x ++ drop (o + v) old)
-            (sym (chunk-data bytes (h .at) (c .some) (omega arith) (line-on (h .at) (c .some) (c .line) fits) (omega (arith, c .end .inside)) end));
+            (sym (chunk-data bytes (h .at) (c .some) (omega arith) (line-on (h .at) (c .some) (c .line) fits)
+            (omega (arith, c .end .inside)) end));
       }
 
   -- the same of a chunk that was read
@@ -180,6 +194,7 @@ module _ (xs old : List ℕ) where
         ∙ ap (λ (n : ℕ). dataTo xs i ++ drop n old) (line-total (h .at))
         ∙ ap (λ (z : List ℕ). z ++ drop (length z) old) (sym d)
 
+module _ (xs old : List ℕ) where
   -- any other answer leaves them
   kept-other : ((n k : ℕ) → decode (length old) xs ≡ Framing.whole n k → ⊥) → old ≡ decode-output xs old
   unfolding decode-output
@@ -191,5 +206,6 @@ module _ (xs old : List ℕ) where
         let y : _≡_ {A = ℕ} 0 1 = cc in absurd (omega arith))
 
     pub kept-refused : {r : Refusal} → a ≡ Refused r → old ≡ decode-output xs old
-    kept-refused {r} f = kept-other (λ n k h. let z : Framing.refused (r .number) (r .place) ≡ Framing.whole n k = ap verdict (sym f) ∙ e ∙ h in
+    kept-refused {r} f = kept-other (λ n k h.
+        let z : Framing.refused (r .number) (r .place) ≡ Framing.whole n k = ap verdict (sym f) ∙ e ∙ h in
         let y : _≡_ {A = ℕ} 0 1 = cc in absurd (omega arith))

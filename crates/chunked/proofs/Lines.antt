@@ -10,7 +10,7 @@ use lib.ListN.{length, getD, take, drop, length-drop}
 use lib.Seq.{take-suc, getD-drop, length-take-le}
 use borrow.Author.Tests.{ltb-true}
 use Rattle.octets.specs.Bytes.{hex?, hex-value}
-use Rattle.octets.proofs.Spans.{span}
+use Rattle.octets.proofs.Spans.{by-range}
 use Rattle.framing.specs.Answer as Framing
 use Rattle.framing.specs.Grammar.{LINE_LIMIT, TRAILER_LIMIT}
 use Rattle.framing.specs.declared.ExtPos.{ExtPos}
@@ -47,7 +47,7 @@ module _ (b d : ℕ) (e : d ≡ cond (hex? b) (hex-value b) 16) where
 
   pub no-hex : b < 256 → 15 < d → hex? b ≡ false
   unfolding hex? hex-small always
-  no-hex small h = go (hex? b) refl e (span always hex-small 0 256 refl b (omega arith) (omega arith))
+  no-hex small h = go (hex? b) refl e (by-range always hex-small 0 256 refl b (omega arith) (omega arith))
     where
       go : (t : Bool) → hex? b ≡ t → d ≡ cond t (hex-value b) 16 → true ≡ cond t (ltb (hex-value b) 16) true → hex? b ≡ false
       go true f g s = absurd (omega (arith, ltb-true (hex-value b) 16 (sym s)))
@@ -114,7 +114,8 @@ module _ {room : ℕ} {xs : List ℕ} {i t : ℕ} where
         read = ap (λ (k : ℕ). lineRun First (take k (drop i xs))) (sym z);
       }
 
-  module _ {v j : ℕ} (h : InSize room xs i t v j) (lt : j < length xs) {d : ℕ} (e : d ≡ cond (hex? (getD xs j 0)) (hex-value (getD xs j 0)) 16) where
+  module _ {v j : ℕ} (h : InSize room xs i t v j) (lt : j < length xs) {d : ℕ}
+      (e : d ≡ cond (hex? (getD xs j 0)) (hex-value (getD xs j 0)) 16) where
     abbrev b : ℕ
     b = getD xs j 0
 
@@ -186,7 +187,8 @@ module _ {room : ℕ} {xs : List ℕ} {i t : ℕ} where
     pub ext-ended : c ≡ 13 → extEnds e ≡ true → At room xs (LineFeed v t) (k + 1)
     ext-ended z f =
         at-next (h .at) lt
-        (Turns.line-cr c (h .pos) (k - i) t z ∙ Turns.leave-some v t (lineEnds (h .pos)) (h .ends ∙ ap (λ (y : Bool). cond y (some v) none) f))
+        (Turns.line-cr c (h .pos) (k - i) t z ∙ Turns.leave-some v t (lineEnds (h .pos))
+        (h .ends ∙ ap (λ (y : Bool). cond y (some v) none) f))
         (Turns.quiet-feed room v t)
 
     pub ext-line : c ≡ 13 → extEnds e ≡ true → LineAt xs i (k + 1 - i) v (13 ∷ [])
@@ -203,7 +205,8 @@ module _ {room : ℕ} {xs : List ℕ} {i t : ℕ} where
     pub ext-unended : c ≡ 13 → extEnds e ≡ false → Framing.refused 1 k ≡ decode room xs
     ext-unended z f =
         at-refuse (h .at) lt
-        (Turns.line-cr c (h .pos) (k - i) t z ∙ Turns.leave-none t (lineEnds (h .pos)) (h .ends ∙ ap (λ (y : Bool). cond y (some v) none) f))
+        (Turns.line-cr c (h .pos) (k - i) t z ∙ Turns.leave-none t (lineEnds (h .pos))
+        (h .ends ∙ ap (λ (y : Bool). cond y (some v) none) f))
         (Turns.no-more room)
 
     module _ (other : c ≡ 13 → ⊥) where

@@ -103,7 +103,8 @@ module _ {room : ℕ} {xs : List ℕ} where
   pub last-more : {t : ℕ} → Framing.more ≡ decode room xs → Last room xs t More
   last-more e = record { is = e; total = λ n k h. let z : _≡_ {A = ℕ} 0 1 = cc in absurd (omega arith) }
 
-  pub last-refused : {t : ℕ} {a : Answer} {m i : ℕ} → verdict a ≡ Framing.refused m i → Framing.refused m i ≡ decode room xs → Last room xs t a
+  pub last-refused : {t : ℕ} {a : Answer} {m i : ℕ} → verdict a ≡ Framing.refused m i → Framing.refused m i ≡ decode room xs
+      → Last room xs t a
   last-refused f e = record { is = f ∙ e; total = λ n k h. let z : _≡_ {A = ℕ} 0 1 = cc in absurd (omega arith) }
 
   pub last-whole : {t i : ℕ} → Framing.whole i t ≡ decode room xs → Last room xs t (Whole i t)

@@ -16,7 +16,8 @@ use Rattle.framing.specs.declared.TrailPos.{TrailPos}
 use Rattle.framing.specs.declared.TrailPos.the-variants as TrailPos
 use Rattle.framing.specs.declared.State.{State}
 use Rattle.framing.specs.declared.State.the-variants.{Line, LineFeed, Data, DataCr, DataLf, Trail, EndLf, Done, Dead}
-use Rattle.framing.specs.helpers.Machine.{extStep, extLive, lineStep, lineEnds, lineLive, trailStep, trailEnds, trailLive, leaveLine, enterChunk, step, live, done, pastRoom, over}
+use Rattle.framing.specs.helpers.Machine.{extStep, extLive, lineStep, lineEnds, lineLive, trailStep, trailEnds}
+use Rattle.framing.specs.helpers.Machine.{trailLive, leaveLine, enterChunk, step, live, done, pastRoom, over}
 use Rattle.framing.specs.helpers.Scan.{ended, refusal, verdictOf}
 use Rattle.framing.specs.Reading.{judge}
 use Rattle.framing.proofs.Cases.{to-cond}

@@ -4,6 +4,6 @@ use Rattle.chunked.specs.declared.Answer.{Answer}
 use Rattle.chunked.specs.declared.Answer.the-variants.{Whole, More, Refused}
 
 abbrev pub verdict : Answer → Framing.Answer
-verdict (Whole taken len) = Framing.whole taken len
+verdict (Whole taken length) = Framing.whole taken length
 verdict More = Framing.more
 verdict (Refused r) = Framing.refused (r .number) (r .place)

@@ -5,7 +5,6 @@ ghost use lib.Dec.{eqb};
 ghost use mathlib.Core.List.{[], _∷_};
 ghost use Prim.Native.Nat.{ℕ, _+_, _-_, _<_, _≤_};
 ghost use lib.ListN.{length};
-ghost use Rattle.octets.specs.Bytes.{hex?, hex-value};
 ghost use Rattle.framing.specs.Answer.{whole, refused};
 ghost use Rattle.framing.specs.declared.LinePos.the-variants.{First};
 ghost use Rattle.framing.specs.declared.State.the-variants.{Line, LineFeed, Trail, EndLf};
@@ -13,16 +12,20 @@ ghost use Rattle.framing.specs.helpers.Machine.{extStep, extEnds, extLive, trai
 ghost use Rattle.framing.specs.Reading.{decode-output, decode as decodeIn};
 ghost use Rattle.chunked.specs.Verdict.{verdict};
 ghost use Rattle.chunked.specs.helpers.Runs.{blockAt};
-ghost use Rattle.chunked.specs.helpers.Passes.{At, SizeRead, LineRead, Last, LineAt, Known, CrlfAt, ChunkAt, ChunkRead};
+ghost use Rattle.chunked.specs.helpers.Passes.{cr-byte, At, SizeRead, LineRead, Last, LineAt, Known, CrlfAt, ChunkAt, ChunkRead};
 use framing::ExtPos;
 use framing::LINE_LIMIT;
 use framing::TRAILER_LIMIT;
 use framing::TrailPos;
+use octets::BODY_TOO_LARGE;
+use octets::LINE_TOO_LONG;
+use octets::MALFORMED;
 use octets::Refusal;
+use octets::TRAILER_TOO_LONG;
 
 // Whole: the bytes that the body takes, and the length of its data. More: the input may begin a body.
 pub enum Answer {
-    Whole { taken: usize, len: usize },
+    Whole { taken: usize, length: usize },
     More,
     Refused(Refusal),
 }
@@ -35,9 +38,22 @@ enum Sized {
 
 // What a chunk line comes to: the size and the place of the data behind it, or the answer.
 enum Found {
-    Data { size: usize, at: usize },
+    Data { size: usize, start: usize },
     Over(Answer),
 }
+
+// The last chunk line that was read: its place, its bytes with CR LF, and its size. No bytes: none was read.
+struct LastLine {
+    at: usize,
+    length: usize,
+    size: usize,
+}
+
+const NO_LINE: LastLine = LastLine {
+    at: 0,
+    length: 0,
+    size: 0,
+};
 
 // Reads a chunked body at the front of `input`. Whole: its data stands at the front of `out`, and the rest of `out` is kept. Any other
 // answer leaves `out` as it was.
@@ -45,40 +61,36 @@ pub fn decode(input: &[u8], out: &mut [u8]) -> Answer
     ensures answers { λ r. ⌜ verdict r ≡ decodeIn (length (now (out .entry))) (now (input .entry)) ⌝ }
     ensures writes { λ _. ⌜ now (out .exit) ≡ decode-output (now (input .entry)) (now (out .entry)) ⌝ }
 {
-    let a = decide(input, out.len());
-    match a {
-        Answer::Whole { taken: _, len } => {
-            copy(input, out, len);
-            a
+    let answer = decide(input, out.len());
+    match answer {
+        Answer::Whole { taken: _, length } => {
+            copy(input, out, length);
+            answer
         }
-        Answer::More => a,
-        Answer::Refused(_) => a,
+        Answer::More => answer,
+        Answer::Refused(_) => answer,
     }
 }
 
 // The answer alone: the first pass. Data is never looked at.
-pub fn decide(input: &[u8], room: usize) -> Answer
+fn decide(input: &[u8], room: usize) -> Answer
     ensures { λ r. ⌜ verdict r ≡ decodeIn room (now (input .entry)) ⌝ }
 {
-    // The place and the data so far; and the last line: its place, its bytes with CR LF, and its size.
-    let mut i = 0;
-    let mut t = 0;
-    let mut p = 0;
-    let mut w = 0;
-    let mut v = 0;
+    let mut at = 0;
+    let mut total = 0;
+    let mut last = NO_LINE;
     loop {
-        if again(input, p, w, v, i, room - t) {
-            i = i + w + v + 2;
-            t += v;
+        if again(input, last, at, room - total) {
+            at = at + last.length + last.size + 2;
+            total += last.size;
         } else {
-            match chunk(input, i, t, room) {
-                Found::Over(a) => return a,
-                Found::Data { size, at } => {
-                    p = i;
-                    w = at - i;
-                    v = size;
-                    i = at + size + 2;
-                    t += size;
+            match chunk(input, at, total, room) {
+                Found::Over(answer) => return answer,
+                Found::Data { size, start } => {
+                    let length = start - at;
+                    last = LastLine { at, length, size };
+                    at = start + size + 2;
+                    total += size;
                 }
             }
         }
@@ -90,87 +102,78 @@ fn copy(input: &[u8], out: &mut [u8], len: usize)
     requires { ⌜ ((taken : ℕ) × (decodeIn (length (now out)) (now input) ≡ whole taken len)) ⌝ }
     ensures { λ _. ⌜ now (out .exit) ≡ decode-output (now (input .entry)) (now (out .entry)) ⌝ }
 {
-    // As in the first pass; `o` bytes of data are written.
     let room = out.len();
-    let mut i = 0;
-    let mut o = 0;
-    let mut p = 0;
-    let mut w = 0;
-    let mut v = 0;
-    while o < len {
-        if again(input, p, w, v, i, room - o) {
-            let j = i + w;
-            copy_run(&mut out[o..o + v], &input[j..j + v]);
-            i = j + v + 2;
-            o += v;
+    let mut at = 0;
+    let mut written = 0;
+    let mut last = NO_LINE;
+    while written < len {
+        if again(input, last, at, room - written) {
+            let start = at + last.length;
+            copy_run(
+                &mut out[written..written + last.size],
+                &input[start..start + last.size],
+            );
+            at = start + last.size + 2;
+            written += last.size;
         } else {
-            match chunk(input, i, o, room) {
+            match chunk(input, at, written, room) {
                 Found::Over(_) => return,
-                Found::Data { size, at } => {
-                    copy_run(&mut out[o..o + size], &input[at..at + size]);
-                    p = i;
-                    w = at - i;
-                    v = size;
-                    i = at + size + 2;
-                    o += size;
+                Found::Data { size, start } => {
+                    copy_run(
+                        &mut out[written..written + size],
+                        &input[start..start + size],
+                    );
+                    let length = start - at;
+                    last = LastLine { at, length, size };
+                    at = start + size + 2;
+                    written += size;
                 }
             }
         }
     }
 }
 
-// Are two parts of one length the same bytes?
-fn same(a: &[u8], b: &[u8]) -> bool
-    requires { ⌜ length (now a) ≡ length (now b) ⌝ }
-    ensures { λ r. ⌜ (r ≡ true → now (a .entry) ≡ now (b .entry)) ⌝ }
+// Do CR and LF stand at `at`?
+fn crlf_at(input: &[u8], at: usize) -> bool
+    requires { ⌜ at ≤ length (now input) ⌝ }
+    ensures { λ r. ⌜ (r ≡ true → CrlfAt (now (input .entry)) at) ⌝ }
 {
-    let mut k = 0;
-    while k < a.len() {
-        if a[k] != b[k] {
-            return false;
-        }
-        k += 1;
-    }
-    true
-}
-
-// Do CR and LF stand at `i`?
-fn crlf_at(input: &[u8], i: usize) -> bool
-    requires { ⌜ i ≤ length (now input) ⌝ }
-    ensures { λ r. ⌜ (r ≡ true → CrlfAt (now (input .entry)) i) ⌝ }
-{
-    if input.len() - i < 2 {
+    if input.len() - at < 2 {
         return false;
     }
-    if input[i] != 13 {
+    if input[at] != b'\r' {
         return false;
     }
-    if input[i + 1] != 10 {
+    if input[at + 1] != b'\n' {
         return false;
     }
     true
 }
 
-// Does a chunk with the same line as the last one, `w` bytes at `p` with the size `v`, stand at `i` and fit into what is left of the
-// room? Then nothing waits for the digits to be read: chunks of one size go by at the speed of a comparison.
-fn again(input: &[u8], p: usize, w: usize, v: usize, i: usize, left: usize) -> bool
-    requires { ⌜ (i ≤ length (now input)) × Known (now input) p w v ⌝ }
-    ensures { λ r. ⌜ (r ≡ true → (v ≤ left) × ChunkAt (now (input .entry)) i w v) ⌝ }
+// Does a chunk with the same line as the last one stand at `at` and fit into what is left of the room? Then nothing waits for the
+// digits to be read: chunks of one size go by at the speed of a comparison.
+fn again(input: &[u8], last: LastLine, at: usize, left: usize) -> bool
+    requires { ⌜ (at ≤ length (now input)) × Known (now input) last ⌝ }
+    ensures { λ r. ⌜ (r ≡ true → (last .size ≤ left) × ChunkAt (now (input .entry)) at (last .length) (last .size)) ⌝ }
 {
-    if w == 0 {
+    if last.length == 0 {
         return false;
     }
-    if left < v {
+    if left < last.size {
         return false;
     }
-    let n = w + v;
-    if input.len() - i < n {
+    let taken = last.length + last.size;
+    if input.len() - at < taken {
         return false;
     }
-    if !crlf_at(input, i + n) {
+    if !crlf_at(input, at + taken) {
         return false;
     }
-    same(&input[p..p + w], &input[i..i + w])
+    let line = last.at;
+    octets::same(
+        &input[line..line + last.length],
+        &input[at..at + last.length],
+    )
 }
 
 // A refusal as an answer.
@@ -180,215 +183,219 @@ fn refuse(number: u8, place: usize) -> Answer
     Answer::Refused(Refusal { number, place })
 }
 
-// Reads the chunk at `i`, behind chunks with `t` bytes of data, and passes over its data.
-fn chunk(input: &[u8], i: usize, t: usize, room: usize) -> Found
-    requires { ⌜ At room (now input) (Line First 0 t) i ⌝ }
-    ensures { λ r. ⌜ ChunkRead room (now (input .entry)) i t r ⌝ }
+// Reads the chunk at `at`, behind chunks with `total` bytes of data, and passes over its data.
+fn chunk(input: &[u8], at: usize, total: usize, room: usize) -> Found
+    requires { ⌜ At room (now input) (Line First 0 total) at ⌝ }
+    ensures { λ r. ⌜ ChunkRead room (now (input .entry)) at total r ⌝ }
 {
-    match line(input, i, t, room) {
-        Found::Over(a) => Found::Over(a),
-        Found::Data { size, at } => {
-            if input.len() - at <= size {
+    match line(input, at, total, room) {
+        Found::Over(answer) => Found::Over(answer),
+        Found::Data { size, start } => {
+            if input.len() - start <= size {
                 return Found::Over(Answer::More);
             }
-            let e = at + size;
-            if input[e] != 13 {
-                return Found::Over(refuse(1, e));
+            let end = start + size;
+            if input[end] != b'\r' {
+                return Found::Over(refuse(MALFORMED, end));
             }
-            if input.len() - e <= 1 {
+            if input.len() - end <= 1 {
                 return Found::Over(Answer::More);
             }
-            if input[e + 1] != 10 {
-                return Found::Over(refuse(1, e + 1));
+            if input[end + 1] != b'\n' {
+                return Found::Over(refuse(MALFORMED, end + 1));
             }
-            Found::Data { size, at }
+            Found::Data { size, start }
         }
     }
 }
 
-// Reads the chunk line at `i`, behind chunks with `t` bytes of data; and the trailer, if the line is the last.
-fn line(input: &[u8], i: usize, t: usize, room: usize) -> Found
-    requires { ⌜ At room (now input) (Line First 0 t) i ⌝ }
-    ensures { λ r. ⌜ LineRead room (now (input .entry)) i t r ⌝ }
+// Reads the chunk line at `at`, behind chunks with `total` bytes of data; and the trailer, if the line is the last.
+fn line(input: &[u8], at: usize, total: usize, room: usize) -> Found
+    requires { ⌜ At room (now input) (Line First 0 total) at ⌝ }
+    ensures { λ r. ⌜ LineRead room (now (input .entry)) at total r ⌝ }
 {
-    match digits(input, i, t, room) {
-        Sized::Over(a) => Found::Over(a),
-        Sized::Digits { value, end } => extensions(input, i, end, value, t, room),
+    match size_digits(input, at, total, room) {
+        Sized::Over(answer) => Found::Over(answer),
+        Sized::Digits { value, end } => extensions(input, at, end, value, total, room),
     }
 }
 
-// The value of a hex digit, and 16 of any other byte.
-fn digit(b: u8) -> usize
-    ensures { λ r. ⌜ r ≡ cond (hex? b) (hex-value b) 16 ⌝ }
+// Reads the size digits of the line at `line`. No sum wraps: a digit that would pass the room is refused before it is added.
+fn size_digits(input: &[u8], line: usize, total: usize, room: usize) -> Sized
+    requires { ⌜ At room (now input) (Line First 0 total) line ⌝ }
+    ensures { λ r. ⌜ SizeRead room (now (input .entry)) line total r ⌝ }
 {
-    octets::hex_value(b) as usize
-}
-
-// Reads the size digits of the line at `i`. No sum wraps: a digit that would pass the room is refused before it is added.
-fn digits(input: &[u8], i: usize, t: usize, room: usize) -> Sized
-    requires { ⌜ At room (now input) (Line First 0 t) i ⌝ }
-    ensures { λ r. ⌜ SizeRead room (now (input .entry)) i t r ⌝ }
-{
-    let left = room - t;
-    let mut v = 0;
-    let mut j = i;
-    while j < input.len() {
-        let d = digit(input[j]);
-        if d > 15 {
-            if j == i {
-                return Sized::Over(refuse(1, j));
+    let left = room - total;
+    let mut value = 0;
+    let mut at = line;
+    while at < input.len() {
+        let digit = octets::hex_value(input[at]) as usize;
+        if digit > 15 {
+            if at == line {
+                return Sized::Over(refuse(MALFORMED, at));
             }
-            return Sized::Digits { value: v, end: j };
+            return Sized::Digits { value, end: at };
         }
-        if j - i == LINE_LIMIT {
-            return Sized::Over(refuse(5, j));
+        if at - line == LINE_LIMIT {
+            return Sized::Over(refuse(LINE_TOO_LONG, at));
         }
-        if v > left / 16 {
-            return Sized::Over(refuse(7, j));
+        if value > left / 16 {
+            return Sized::Over(refuse(BODY_TOO_LARGE, at));
         }
-        if d > left - v * 16 {
-            return Sized::Over(refuse(7, j));
+        if digit > left - value * 16 {
+            return Sized::Over(refuse(BODY_TOO_LARGE, at));
         }
-        v = v * 16 + d;
-        j += 1;
+        value = value * 16 + digit;
+        at += 1;
     }
     Sized::Over(Answer::More)
 }
 
-// Reads the line at `i` on from `j`, behind its digits, to its CR.
-fn extensions(input: &[u8], i: usize, j: usize, v: usize, t: usize, room: usize) -> Found
-    requires { ⌜ SizeRead room (now input) i t (Sized.Digits v j) ⌝ }
-    ensures { λ r. ⌜ LineRead room (now (input .entry)) i t r ⌝ }
+// Reads the line at `line`, whose digits have the value `size` and end at `end`, on to its CR.
+fn extensions(
+    input: &[u8],
+    line: usize,
+    end: usize,
+    size: usize,
+    total: usize,
+    room: usize,
+) -> Found
+    requires { ⌜ SizeRead room (now input) line total (Sized.Digits size end) ⌝ }
+    ensures { λ r. ⌜ LineRead room (now (input .entry)) line total r ⌝ }
 {
-    let mut e = ExtPos::Between;
-    let mut k = j;
-    while k < input.len() {
-        let b = input[k];
-        if b == 13 {
-            if ext_ends(e) {
-                return line_feed(input, i, k + 1, v, t, room);
+    let mut pos = ExtPos::Between;
+    let mut at = end;
+    while at < input.len() {
+        let byte = input[at];
+        if byte == b'\r' {
+            if ext_ends(pos) {
+                return line_feed(input, line, at + 1, size, total, room);
             }
-            return Found::Over(refuse(1, k));
+            return Found::Over(refuse(MALFORMED, at));
         }
-        e = ext_step(e, b);
-        if !ext_live(e) {
-            return Found::Over(refuse(1, k));
+        pos = ext_step(pos, byte);
+        if !ext_live(pos) {
+            return Found::Over(refuse(MALFORMED, at));
         }
-        if k - i == LINE_LIMIT {
-            return Found::Over(refuse(5, k));
+        if at - line == LINE_LIMIT {
+            return Found::Over(refuse(LINE_TOO_LONG, at));
         }
-        k += 1;
+        at += 1;
     }
     Found::Over(Answer::More)
 }
 
-// Behind the CR of a line that gives `v`.
-fn line_feed(input: &[u8], i: usize, k: usize, v: usize, t: usize, room: usize) -> Found
-    requires { ⌜ (i ≤ k) × At room (now input) (LineFeed v t) k × LineAt (now input) i (k - i) v (13 ∷ []) ⌝ }
-    ensures { λ r. ⌜ LineRead room (now (input .entry)) i t r ⌝ }
+// Behind the CR of the line at `line`, which gives `size`.
+fn line_feed(input: &[u8], line: usize, at: usize, size: usize, total: usize, room: usize) -> Found
+    requires { ⌜ (line ≤ at) × At room (now input) (LineFeed size total) at × LineAt (now input) line (at - line) size (cr-byte ∷ []) ⌝ }
+    ensures { λ r. ⌜ LineRead room (now (input .entry)) line total r ⌝ }
 {
-    if input.len() <= k {
+    if input.len() <= at {
         return Found::Over(Answer::More);
     }
-    if input[k] != 10 {
-        return Found::Over(refuse(1, k));
+    if input[at] != b'\n' {
+        return Found::Over(refuse(MALFORMED, at));
     }
-    if v == 0 {
-        return Found::Over(trailer(input, k + 1, t, room));
+    if size == 0 {
+        return Found::Over(trailer(input, at + 1, total, room));
     }
-    Found::Data { size: v, at: k + 1 }
+    Found::Data {
+        size,
+        start: at + 1,
+    }
 }
 
-// Reads the trailer at `i`, behind the last chunk's line, and the closing CR LF.
-fn trailer(input: &[u8], i: usize, t: usize, room: usize) -> Answer
-    requires { ⌜ At room (now input) (Trail TrailPos.Start 0 t) i ⌝ }
-    ensures { λ r. ⌜ Last room (now (input .entry)) t r ⌝ }
+// Reads the trailer at `start`, behind the last chunk's line, and the closing CR LF.
+fn trailer(input: &[u8], start: usize, total: usize, room: usize) -> Answer
+    requires { ⌜ At room (now input) (Trail TrailPos.Start 0 total) start ⌝ }
+    ensures { λ r. ⌜ Last room (now (input .entry)) total r ⌝ }
 {
-    let mut p = TrailPos::Start;
-    let mut k = i;
-    while k < input.len() {
-        let b = input[k];
-        if closes(p, b) {
-            return close(input, k + 1, t, room);
+    let mut pos = TrailPos::Start;
+    let mut at = start;
+    while at < input.len() {
+        let byte = input[at];
+        if closes(pos, byte) {
+            return close(input, at + 1, total, room);
         }
-        p = trail_step(p, b);
-        if !trail_live(p) {
-            return refuse(1, k);
+        pos = trail_step(pos, byte);
+        if !trail_live(pos) {
+            return refuse(MALFORMED, at);
         }
-        if k - i == TRAILER_LIMIT {
-            return refuse(6, k);
+        if at - start == TRAILER_LIMIT {
+            return refuse(TRAILER_TOO_LONG, at);
         }
-        k += 1;
+        at += 1;
     }
     Answer::More
 }
 
 // Behind the CR that closes a body.
-fn close(input: &[u8], k: usize, t: usize, room: usize) -> Answer
-    requires { ⌜ At room (now input) (EndLf t) k ⌝ }
-    ensures { λ r. ⌜ Last room (now (input .entry)) t r ⌝ }
+fn close(input: &[u8], at: usize, total: usize, room: usize) -> Answer
+    requires { ⌜ At room (now input) (EndLf total) at ⌝ }
+    ensures { λ r. ⌜ Last room (now (input .entry)) total r ⌝ }
 {
-    if input.len() <= k {
+    if input.len() <= at {
         return Answer::More;
     }
-    if input[k] != 10 {
-        return refuse(1, k);
+    if input[at] != b'\n' {
+        return refuse(MALFORMED, at);
     }
     Answer::Whole {
-        taken: k + 1,
-        len: t,
+        taken: at + 1,
+        length: total,
     }
 }
 
-fn pick_ext(t: bool, a: ExtPos, b: ExtPos) -> ExtPos
-    ensures { λ r. ⌜ r ≡ cond t a b ⌝ }
+fn pick_ext(test: bool, yes: ExtPos, other: ExtPos) -> ExtPos
+    ensures { λ r. ⌜ r ≡ cond test yes other ⌝ }
 {
-    if t { a } else { b }
+    if test { yes } else { other }
 }
 
-fn ext_step(e: ExtPos, b: u8) -> ExtPos
-    ensures { λ r. ⌜ r ≡ extStep e b ⌝ }
+// The position behind a byte of extensions.
+fn ext_step(pos: ExtPos, byte: u8) -> ExtPos
+    ensures { λ r. ⌜ r ≡ extStep pos byte ⌝ }
 {
     let bad = ExtPos::Bad;
-    match e {
-        ExtPos::Between => pick_ext(b == 59, ExtPos::Name0, bad),
-        ExtPos::Name0 => pick_ext(octets::is_token(b), ExtPos::Name, bad),
+    match pos {
+        ExtPos::Between => pick_ext(byte == b';', ExtPos::Name0, bad),
+        ExtPos::Name0 => pick_ext(octets::is_token(byte), ExtPos::Name, bad),
         ExtPos::Name => {
-            let other = pick_ext(b == 59, ExtPos::Name0, bad);
+            let other = pick_ext(byte == b';', ExtPos::Name0, bad);
             pick_ext(
-                octets::is_token(b),
+                octets::is_token(byte),
                 ExtPos::Name,
-                pick_ext(b == 61, ExtPos::Value0, other),
+                pick_ext(byte == b'=', ExtPos::Value0, other),
             )
         }
         ExtPos::Value0 => pick_ext(
-            octets::is_token(b),
+            octets::is_token(byte),
             ExtPos::Token,
-            pick_ext(b == 34, ExtPos::Quoted, bad),
+            pick_ext(byte == b'"', ExtPos::Quoted, bad),
         ),
         ExtPos::Token => pick_ext(
-            octets::is_token(b),
+            octets::is_token(byte),
             ExtPos::Token,
-            pick_ext(b == 59, ExtPos::Name0, bad),
+            pick_ext(byte == b';', ExtPos::Name0, bad),
         ),
         ExtPos::Quoted => {
-            let other = pick_ext(b == 34, ExtPos::Between, bad);
+            let other = pick_ext(byte == b'"', ExtPos::Between, bad);
             pick_ext(
-                octets::is_text(b),
+                octets::is_text(byte),
                 ExtPos::Quoted,
-                pick_ext(b == 92, ExtPos::Pair, other),
+                pick_ext(byte == b'\\', ExtPos::Pair, other),
             )
         }
-        ExtPos::Pair => pick_ext(octets::is_escaped(b), ExtPos::Quoted, bad),
+        ExtPos::Pair => pick_ext(octets::is_escaped(byte), ExtPos::Quoted, bad),
         ExtPos::Bad => bad,
     }
 }
 
 // May the line end there?
-fn ext_ends(e: ExtPos) -> bool
-    ensures { λ r. ⌜ r ≡ extEnds e ⌝ }
+fn ext_ends(pos: ExtPos) -> bool
+    ensures { λ r. ⌜ r ≡ extEnds pos ⌝ }
 {
-    match e {
+    match pos {
         ExtPos::Between => true,
         ExtPos::Name0 => false,
         ExtPos::Name => true,
@@ -400,10 +407,10 @@ fn ext_ends(e: ExtPos) -> bool
     }
 }
 
-fn ext_live(e: ExtPos) -> bool
-    ensures { λ r. ⌜ r ≡ extLive e ⌝ }
+fn ext_live(pos: ExtPos) -> bool
+    ensures { λ r. ⌜ r ≡ extLive pos ⌝ }
 {
-    match e {
+    match pos {
         ExtPos::Between => true,
         ExtPos::Name0 => true,
         ExtPos::Name => true,
@@ -415,37 +422,38 @@ fn ext_live(e: ExtPos) -> bool
     }
 }
 
-fn pick_trail(t: bool, a: TrailPos, b: TrailPos) -> TrailPos
-    ensures { λ r. ⌜ r ≡ cond t a b ⌝ }
+fn pick_trail(test: bool, yes: TrailPos, other: TrailPos) -> TrailPos
+    ensures { λ r. ⌜ r ≡ cond test yes other ⌝ }
 {
-    if t { a } else { b }
+    if test { yes } else { other }
 }
 
-fn trail_step(p: TrailPos, b: u8) -> TrailPos
-    ensures { λ r. ⌜ r ≡ trailStep p b ⌝ }
+// The position behind a byte of the trailer.
+fn trail_step(pos: TrailPos, byte: u8) -> TrailPos
+    ensures { λ r. ⌜ r ≡ trailStep pos byte ⌝ }
 {
     let wrong = TrailPos::Wrong;
-    match p {
-        TrailPos::Start => pick_trail(octets::is_token(b), TrailPos::Field, wrong),
+    match pos {
+        TrailPos::Start => pick_trail(octets::is_token(byte), TrailPos::Field, wrong),
         TrailPos::Field => pick_trail(
-            octets::is_token(b),
+            octets::is_token(byte),
             TrailPos::Field,
-            pick_trail(b == 58, TrailPos::Content, wrong),
+            pick_trail(byte == b':', TrailPos::Content, wrong),
         ),
         TrailPos::Content => pick_trail(
-            octets::is_content(b),
+            octets::is_content(byte),
             TrailPos::Content,
-            pick_trail(b == 13, TrailPos::Feed, wrong),
+            pick_trail(byte == b'\r', TrailPos::Feed, wrong),
         ),
-        TrailPos::Feed => pick_trail(b == 10, TrailPos::Start, wrong),
+        TrailPos::Feed => pick_trail(byte == b'\n', TrailPos::Start, wrong),
         TrailPos::Wrong => wrong,
     }
 }
 
-fn trail_live(p: TrailPos) -> bool
-    ensures { λ r. ⌜ r ≡ trailLive p ⌝ }
+fn trail_live(pos: TrailPos) -> bool
+    ensures { λ r. ⌜ r ≡ trailLive pos ⌝ }
 {
-    match p {
+    match pos {
         TrailPos::Start => true,
         TrailPos::Field => true,
         TrailPos::Content => true,
@@ -455,11 +463,11 @@ fn trail_live(p: TrailPos) -> bool
 }
 
 // Is it the CR that closes the body?
-fn closes(p: TrailPos, b: u8) -> bool
-    ensures { λ r. ⌜ r ≡ trailEnds p && eqb b 13 ⌝ }
+fn closes(pos: TrailPos, byte: u8) -> bool
+    ensures { λ r. ⌜ r ≡ trailEnds pos && eqb byte cr-byte ⌝ }
 {
-    match p {
-        TrailPos::Start => b == 13,
+    match pos {
+        TrailPos::Start => byte == b'\r',
         TrailPos::Field => false,
         TrailPos::Content => false,
         TrailPos::Feed => false,
@@ -472,23 +480,23 @@ fn block(src: &[u8]) -> [u8; 16]
     requires { ⌜ length (now src) ≡ 16 ⌝ }
     ensures { λ r. ⌜ r ≡ now (src .entry) ⌝ }
 {
-    let mut b = [0u8; 16];
-    let mut k = 0;
-    while k < 16 {
-        b[k] = src[k];
-        k += 1;
+    let mut bytes = [0u8; 16];
+    let mut i = 0;
+    while i < 16 {
+        bytes[i] = src[i];
+        i += 1;
     }
-    b
+    bytes
 }
 
-fn put_block(dst: &mut [u8], b: [u8; 16])
-    requires { ⌜ (length (now dst) ≡ 16) × (length b ≡ 16) ⌝ }
-    ensures { λ _. ⌜ now (dst .exit) ≡ b ⌝ }
+fn put_block(dst: &mut [u8], bytes: [u8; 16])
+    requires { ⌜ (length (now dst) ≡ 16) × (length bytes ≡ 16) ⌝ }
+    ensures { λ _. ⌜ now (dst .exit) ≡ bytes ⌝ }
 {
-    let mut k = 0;
-    while k < 16 {
-        dst[k] = b[k];
-        k += 1;
+    let mut i = 0;
+    while i < 16 {
+        dst[i] = bytes[i];
+        i += 1;
     }
 }
 
@@ -497,20 +505,20 @@ fn copy_bytes(dst: &mut [u8], src: &[u8])
     requires { ⌜ length (now dst) ≡ length (now src) ⌝ }
     ensures { λ _. ⌜ now (dst .exit) ≡ now (src .entry) ⌝ }
 {
-    let mut k = 0;
-    while k < src.len() {
-        dst[k] = src[k];
-        k += 1;
+    let mut i = 0;
+    while i < src.len() {
+        dst[i] = src[i];
+        i += 1;
     }
 }
 
-// Copies the block at `k`.
-fn copy_block(dst: &mut [u8], src: &[u8], k: usize)
-    requires { ⌜ (length (now dst) ≡ length (now src)) × (k + 16 ≤ length (now src)) ⌝ }
-    ensures { λ _. ⌜ now (dst .exit) ≡ blockAt (now (src .entry)) (now (dst .entry)) k ⌝ }
+// Copies the block at `at`.
+fn copy_block(dst: &mut [u8], src: &[u8], at: usize)
+    requires { ⌜ (length (now dst) ≡ length (now src)) × (at + 16 ≤ length (now src)) ⌝ }
+    ensures { λ _. ⌜ now (dst .exit) ≡ blockAt (now (src .entry)) (now (dst .entry)) at ⌝ }
 {
-    let e = k + 16;
-    put_block(&mut dst[k..e], block(&src[k..e]));
+    let end = at + 16;
+    put_block(&mut dst[at..end], block(&src[at..end]));
 }
 
 // Copies a run of bytes by blocks. The last block may overlap the one before it.
@@ -518,15 +526,15 @@ fn copy_run(dst: &mut [u8], src: &[u8])
     requires { ⌜ length (now dst) ≡ length (now src) ⌝ }
     ensures { λ _. ⌜ now (dst .exit) ≡ now (src .entry) ⌝ }
 {
-    let n = src.len();
-    if n < 16 {
+    let len = src.len();
+    if len < 16 {
         copy_bytes(dst, src);
         return;
     }
-    let mut k = 0;
-    while n - k > 16 {
-        copy_block(dst, src, k);
-        k += 16;
+    let mut at = 0;
+    while len - at > 16 {
+        copy_block(dst, src, at);
+        at += 16;
     }
-    copy_block(dst, src, n - 16);
+    copy_block(dst, src, len - 16);
 }

@@ -1,27 +1,22 @@
 -- The theorems of dates: what a customer reads.
-use Prim.Native.Nat.{ℕ}
-use native.Mathlib.Omega.{arith}
-use mathlib.Core.Path.{_≡_, refl, sym, ap, _∙_}
+use Prim.Native.Nat.{ℕ, suc}
+use mathlib.Core.Path.{_≡_, refl, sym, _∙_}
 use mathlib.Core.Logic.{_↔_}
-use mathlib.Core.Bool.{Bool, true}
-use mathlib.Core.List.{List}
+use mathlib.Core.List.{List, [], _∷_}
 use lib.Dec.{T}
-use lib.IntN.{ℤ}
-use Rattle.grammar.specs.Reading.{Verdict, value, Answers, too-long, malformed, breaks, faulty, reads}
+use lib.ListN.{length}
+use Rattle.grammar.specs.Grammar.{Part, Parses}
+use Rattle.grammar.specs.Reading.{Verdict, value, Answers}
 use Rattle.grammar.specs.helpers.Judge.{header}
 use Rattle.grammar.proofs.Deterministic.{deterministic?}
 use Rattle.grammar.proofs.Demands.{answered-exactly}
 use Rattle.octets.specs.Bytes.{digit?}
-use Rattle.date.specs.declared.Date.{Date}
-use Rattle.calendar.specs.declared.Fields.{Fields}
-use Rattle.calendar.specs.Gregorian.{weekday, day-number, exists?}
-use Rattle.calendar.specs.Instants.{seconds-of, in-range?, fields-at, weekday-at}
 use Rattle.calendar.proofs.Demands as Calendar
-use Rattle.calendar.proofs.Demands.{fields-exist, same-seconds, same-weekday}
-use Rattle.date.specs.Grammar.{date, said, value-of, rules}
-use Rattle.date.specs.Writing.{date-text, instant-text}
-use Rattle.date.proofs.Back.{text-reads}
-use Rattle.date.proofs.Judged.{no-fault}
+use Rattle.date.specs.declared.Date.{Date}
+use Rattle.date.specs.Grammar.{Name, month, months, date, rules}
+use Rattle.date.specs.Names.{month-names, first-name}
+use Rattle.date.proofs.Months.{month-first, first-month}
+use Rattle.date.proofs.Judged.{read-is}
 
 one-way : T (deterministic? date)
 unfolding digit?
@@ -32,37 +27,19 @@ one-way = tt
 pub reading : (s : List ℕ) (v : Verdict Date) → (header rules s ≡ v) ↔ Answers rules s v
 reading = answered-exactly rules tt tt one-way
 
--- what is read is a date that exists, and its seconds
-read-is : (s : List ℕ) (v : Verdict Date) → Answers rules s v → (d : Date) → v ≡ value d → (exists? (d .fields) ≡ true) × (d .seconds ≡ seconds-of (d .fields))
-read-is s v (too-long h) d e = absurd (let z : _≡_ {A = ℕ} 0 1 = cc in omega arith)
-read-is s v (malformed h n l t) d e = absurd (let z : _≡_ {A = ℕ} 0 1 = cc in omega arith)
-read-is s v (breaks h b t) d e = absurd (let z : _≡_ {A = ℕ} 0 1 = cc in omega arith)
-read-is s v (faulty h p t f) d e = absurd (let z : _≡_ {A = ℕ} 0 1 = cc in omega arith)
-read-is s v (reads {ps} h p t f) d e =
-    let x : value-of (said ps .fields) ≡ d = same-value e in (
-      ap (λ (y : Date). exists? (y .fields)) (sym x) ∙ no-fault (said ps .named) (said ps .fields) f,
-      ap (λ (y : Date). y .seconds) (sym x) ∙ ap (λ (y : Date). seconds-of (y .fields)) x,
-    )
-  where
-    same-value : {x y : Date} → value x ≡ value y → x ≡ y
-    same-value e = cc
+-- "The first name in the month table that agrees with the three bytes gives the month number.": a text is a month, with that number, just
+-- where it is of three bytes and a name agrees
+pub month-number : (i : ℕ) (t : List ℕ) (ps : List (Part Name)) → Parses months i t ps
+    ↔ ((k : ℕ) × (length t ≡ 3) × (first-name 1 month-names t ≡ suc k)
+    × (ps ≡ record { label = month (suc k); start = suc (suc (suc i)); text = [] } ∷ []))
+month-number i t ps = (month-first i t ps, first-month i t ps)
 
--- "The result is the fields and the seconds": of whatever is read, fields and seconds determine each other, and two dates are the same
--- instant exactly when their seconds are equal.
-pub same-instant : (a b : List ℕ) (d e : Date) → header rules a ≡ value d → header rules b ≡ value e → (d .fields ≡ e .fields) ↔ (d .seconds ≡ e .seconds)
+-- "The result is the fields and the seconds since 1970-01-01 00:00:00": of whatever is read, fields and seconds determine each other, and
+-- two dates are the same instant exactly when their seconds are equal.
+pub same-instant : (a b : List ℕ) (d e : Date) → header rules a ≡ value d → header rules b ≡ value e
+    → (d .fields ≡ e .fields) ↔ (d .seconds ≡ e .seconds)
 same-instant a b d e p q =
     let x = read-is a (value d) (reading a (value d) .0 p) d refl in
     let y = read-is b (value e) (reading b (value e) .0 q) e refl in
     let same = Calendar.same-instant (d .fields) (e .fields) (x .0) (y .0) in
     (λ h. x .1 ∙ same .0 h ∙ sym (y .1), λ h. same .1 (sym (x .1) ∙ h ∙ y .1))
-
--- "What writers produce reads back", as the same instant: for every instant that the writer accepts.
-pub reads-back : (s : ℤ) → in-range? s ≡ true → header rules (instant-text s) ≡ value (record { fields = fields-at s; seconds = s })
-reads-back s e =
-    text-reads (fields-at s) (weekday-at s) (fields-exist s e)
-    (ap weekday-at (sym (same-seconds s e)) ∙ same-weekday (fields-at s) (fields-exist s e))
-    ∙ ap (λ (z : ℤ). value (record { fields = fields-at s; seconds = z })) (same-seconds s e)
-
--- and the text of any date, in the form of RFC 1123, reads as that date
-pub text-of-date : (f : Fields) → exists? f ≡ true → header rules (date-text (weekday (day-number (f .year) (f .month) (f .day))) f) ≡ value (value-of f)
-text-of-date f e = text-reads f (weekday (day-number (f .year) (f .month) (f .day))) e refl

@@ -1,5 +1,5 @@
 -- A well-formed date: what the calendar makes of it.
-use Prim.Native.Nat.{ℕ, _≤_, _<_}
+use Prim.Native.Nat.{ℕ}
 use native.Mathlib.Omega.{arith}
 use borrow.Author.Tests.{eq-eqb, ne-eqb}
 use mathlib.Core.Path.{_≡_, refl, sym, ap, ap₂, _∙_}
@@ -14,7 +14,7 @@ use mir.Facts.{toZ-ofZ}
 use denote.Enum.Declared.{tagOf}
 use types.Run.{OneOf, miss}
 use Rattle.calendar.proofs.Located.{the-type}
-use Rattle.grammar.specs.Reading.{value, refused, no-such-date, wrong-day}
+use Rattle.grammar.specs.Reading.{Verdict, value, refused, no-such-date, wrong-day, Answers, too-long, malformed, breaks, faulty, reads}
 use Rattle.grammar.specs.helpers.Judge.{unless-fault}
 use Rattle.calendar.specs.declared.Fields.{Fields}
 use Rattle.calendar.specs.declared.Located.{Located}
@@ -24,7 +24,8 @@ use Rattle.calendar.specs.Gregorian.{day-number, exists?}
 use Rattle.calendar.specs.Instants.{seconds-of, located, in-range?}
 use Rattle.calendar.proofs.Demands.{in-range}
 use Rattle.calendar.proofs.Signed.{late, early}
-use Rattle.date.specs.Grammar.{fault-of, value-of}
+use Rattle.date.specs.declared.Date.{Date}
+use Rattle.date.specs.Grammar.{fault-of, said, value-of, rules}
 use Rattle.date.specs.helpers.Scan.{judged}
 
 -- a match on the calendar's answer: its first arm
@@ -88,3 +89,19 @@ no-fault k f e = go (exists? f) refl e
     go : (t : Bool) → exists? f ≡ t → cond t (cond (eqb k (Gregorian.weekday (day-number (f .year) (f .month) (f .day)))) none (some wrong-day)) (some no-such-date) ≡ none → exists? f ≡ true
     go true d e = d
     go false d e = absurd (let z : _≡_ {A = ℕ} 0 1 = cc in omega arith)
+
+-- what is read is a date that exists, and its seconds
+pub read-is : (s : List ℕ) (v : Verdict Date) → Answers rules s v → (d : Date) → v ≡ value d
+    → (exists? (d .fields) ≡ true) × (d .seconds ≡ seconds-of (d .fields))
+read-is s v (too-long h) d e = absurd (let z : _≡_ {A = ℕ} 0 1 = cc in omega arith)
+read-is s v (malformed h n l t) d e = absurd (let z : _≡_ {A = ℕ} 0 1 = cc in omega arith)
+read-is s v (breaks h b t) d e = absurd (let z : _≡_ {A = ℕ} 0 1 = cc in omega arith)
+read-is s v (faulty h p t f) d e = absurd (let z : _≡_ {A = ℕ} 0 1 = cc in omega arith)
+read-is s v (reads {ps} h p t f) d e =
+    let x : value-of (said ps .fields) ≡ d = same-value e in (
+      ap (λ (y : Date). exists? (y .fields)) (sym x) ∙ no-fault (said ps .named) (said ps .fields) f,
+      ap (λ (y : Date). y .seconds) (sym x) ∙ ap (λ (y : Date). seconds-of (y .fields)) x,
+    )
+  where
+    same-value : {x y : Date} → value x ≡ value y → x ≡ y
+    same-value e = cc

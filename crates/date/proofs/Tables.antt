@@ -2,22 +2,20 @@
 use Prim.Native.Nat.{ℕ, zero, suc, _+_, _-_, _*_, _/_, _≤_, _<_}
 use native.Mathlib.Omega.{arith}
 use native.Mathlib.Numerals.{add-one}
-use borrow.Author.Tests.{ne-eqb, eq-eqb, eqb-true, eqb-false, lt-ltb, le-ltb, le-leb, lt-leb}
-use mathlib.Core.Path.{_≡_, refl, sym, ap, subst, _∙_}
+use borrow.Author.Tests.{ne-eqb, eq-eqb, eqb-true, eqb-false, lt-ltb, le-ltb}
+use mathlib.Core.Path.{_≡_, refl, sym, ap, ap₂, _∙_}
 use mathlib.Core.Bool.{Bool, true, false, cond, _&&_}
 use mathlib.Core.List.{List, [], _∷_, _++_}
-use mathlib.Core.Option.{Option, none, some}
-use lib.Dec.{leb, ltb, eqb}
+use lib.Dec.{eqb}
 use lib.ListN.{length, getD, take, drop, drop-of-length-le, length-drop}
 use lib.Seq.{drop-cons}
 use Rattle.grammar.specs.helpers.Scans.{slice}
 use Rattle.grammar.proofs.Scans.{slice-none, slice-snoc}
 use Rattle.octets.specs.Numbers.{number}
-use Rattle.date.specs.declared.Tail.{Tail}
 use Rattle.date.specs.declared.Tail.the-variants.{Month, Stops}
 use Rattle.grammar.specs.helpers.Words.{begins}
 use Rattle.date.specs.Names.{month-names, first-name}
-use Rattle.date.specs.helpers.Scan.{index, name-index, month-then}
+use Rattle.date.specs.helpers.Scan.{tail-of, month-then}
 use Rattle.grammar.specs.helpers.Words.{larger}
 use Rattle.octets.specs.helpers.Shapes.{stands-for, fitting}
 use Rattle.date.specs.helpers.Shapes.{longest}
@@ -65,7 +63,11 @@ fit-inside (a ∷ w) (b ∷ t) = go (stands-for a b) (fit-inside w t)
 
 -- ## Three bytes
 
-pub three : (xs : List ℕ) (n : ℕ) → n + 3 ≤ length xs → drop n xs ≡ getD xs n 0 ∷ getD xs (n + 1) 0 ∷ getD xs (n + 2) 0 ∷ drop (n + 3) xs
+-- the three bytes at n, and then ys
+abbrev pub three-at : List ℕ → ℕ → List ℕ → List ℕ
+three-at xs n ys = getD xs n 0 ∷ getD xs (n + 1) 0 ∷ getD xs (n + 2) 0 ∷ ys
+
+pub three : (xs : List ℕ) (n : ℕ) → n + 3 ≤ length xs → drop n xs ≡ three-at xs n (drop (n + 3) xs)
 three xs n h =
     let a : n + 1 + 1 ≡ n + 2 = omega arith in
     let b : n + 2 + 1 ≡ n + 3 = omega arith in
@@ -73,84 +75,84 @@ three xs n h =
     ∙ ap (λ (l : List ℕ). getD xs n 0 ∷ l) (next-drop xs (n + 1) (omega arith))
     ∙ ap (λ (k : ℕ). getD xs n 0 ∷ getD xs (n + 1) 0 ∷ drop k xs) a
     ∙ ap (λ (l : List ℕ). getD xs n 0 ∷ getD xs (n + 1) 0 ∷ l) (next-drop xs (n + 2) (omega arith))
-    ∙ ap (λ (k : ℕ). getD xs n 0 ∷ getD xs (n + 1) 0 ∷ getD xs (n + 2) 0 ∷ drop k xs) b
+    ∙ ap (λ (k : ℕ). three-at xs n (drop k xs)) b
 
-few-names : (xs t : List ℕ) (k : ℕ) → length xs < 3 → (first-name xs t k ≡ none) × (longest xs t ≡ 0)
-few-names [] t k h = (refl, refl)
-few-names (a ∷ []) t k h = (refl, refl)
-few-names (a ∷ b ∷ []) t k h = (refl, refl)
-few-names (a ∷ b ∷ c ∷ xs) t k h = absurd (omega arith)
+few-names : (xs t : List ℕ) (n : ℕ) → length xs < 3 → (first-name n xs t ≡ 0) × (longest xs t ≡ 0)
+unfolding first-name
+few-names [] t n h = (refl, refl)
+few-names (a ∷ []) t n h = (refl, refl)
+few-names (a ∷ b ∷ []) t n h = (refl, refl)
+few-names (a ∷ b ∷ c ∷ xs) t n h = absurd (omega arith)
+
+and-false : (x : Bool) → x && false ≡ false
+and-false true = refl
+and-false false = refl
 
 short-begins : (a b c : ℕ) (t : List ℕ) → length t < 3 → begins (a ∷ b ∷ c ∷ []) t ≡ false
 short-begins a b c [] h = refl
-short-begins a b c (x ∷ []) h = both (eqb x a)
-  where
-    both : (t : Bool) → t && false ≡ false
-    both true = refl
-    both false = refl
-short-begins a b c (x ∷ y ∷ []) h = both (eqb x a) (eqb y b)
-  where
-    both : (t u : Bool) → t && (u && false) ≡ false
-    both true true = refl
-    both true false = refl
-    both false u = refl
+short-begins a b c (x ∷ []) h = and-false (eqb x a)
+short-begins a b c (x ∷ y ∷ []) h = rw (and-false (eqb y b)) (and-false (eqb x a))
 short-begins a b c (x ∷ y ∷ z ∷ t) h = absurd (omega arith)
 
-short-name : (xs t : List ℕ) (k : ℕ) → length t < 3 → first-name xs t k ≡ none
-short-name [] t k h = refl
-short-name (a ∷ []) t k h = refl
-short-name (a ∷ b ∷ []) t k h = refl
-short-name (a ∷ b ∷ c ∷ xs) t k h = rw (short-begins a b c t h) (short-name xs t (suc k) h)
+short-name : (xs t : List ℕ) (n : ℕ) → length t < 3 → first-name n xs t ≡ 0
+unfolding first-name
+short-name [] t n h = refl
+short-name (a ∷ []) t n h = refl
+short-name (a ∷ b ∷ []) t n h = refl
+short-name (a ∷ b ∷ c ∷ xs) t n h = rw (short-begins a b c t h) (short-name xs t (suc n) h)
+
+-- a name's number is at most that of the last name
+pub number-bound : (n : ℕ) (xs t : List ℕ) → 3 * first-name (suc n) xs t ≤ 3 * n + length xs
+unfolding first-name
+number-bound n [] t = omega arith
+number-bound n (a ∷ []) t = omega arith
+number-bound n (a ∷ b ∷ []) t = omega arith
+number-bound n (a ∷ b ∷ c ∷ xs) t = go (begins (a ∷ b ∷ c ∷ []) t) (first-name (suc (suc n)) xs t) (number-bound (suc n) xs t)
+  where
+    go : (x : Bool) (m : ℕ) → 3 * m ≤ 3 * suc n + length xs → 3 * cond x (suc n) m ≤ 3 * n + length (a ∷ b ∷ c ∷ xs)
+    go true m h = omega arith
+    go false m h = omega arith
 
 -- ## The search for a name
 
 module _ (names s : List ℕ) (at : ℕ) where
-  pub no-name : length (drop at s) < 3 → length names / 3 ≡ name-index names (drop at s)
-  unfolding name-index
-  no-name h = rw (short-name names (drop at s) 0 h)
+  pub no-name : length (drop at s) < 3 → 0 ≡ first-name 1 names (drop at s)
+  no-name h = sym (short-name names (drop at s) 1 h)
 
-  -- the names before the place k do not agree
+  -- the first k names do not agree
   abbrev pub Passed : ℕ → Type 0
-  Passed k = (k ≤ length names / 3) × (first-name names (drop at s) 0 ≡ first-name (drop (3 * k) names) (drop at s) k)
+  Passed k = (k ≤ length names / 3) × (first-name 1 names (drop at s) ≡ first-name (suc k) (drop (3 * k) names) (drop at s))
 
-  -- the first j bytes of the name at k agree
+  -- the first j bytes of the name behind them agree
   abbrev pub Agrees : ℕ → ℕ → Type 0
   Agrees k j = (i : ℕ) → i < j → getD s (at + i) 0 ≡ getD names (3 * k + i) 0
 
   pub none-passed : Passed 0
   none-passed = (omega arith, refl)
 
-  pub all-passed : (k : ℕ) → Passed k → length names / 3 ≤ k → length names / 3 ≡ name-index names (drop at s)
-  unfolding name-index
-  all-passed k p h =
-      sym (ap (index (length names / 3)) (p .1 ∙ few-names (drop (3 * k) names) (drop at s) k (omega (arith, length-drop (3 * k) names)) .0))
+  pub all-passed : (k : ℕ) → Passed k → length names / 3 ≤ k → 0 ≡ first-name 1 names (drop at s)
+  all-passed k p h = sym (p .1 ∙ few-names (drop (3 * k) names) (drop at s) (suc k) (omega (arith, length-drop (3 * k) names)) .0)
 
   module _ (long : at + 3 ≤ length s) (k : ℕ) (low : k < length names / 3) where
-    abbrev agree : Bool
-    agree = begins (getD names (3 * k) 0 ∷ getD names (3 * k + 1) 0 ∷ getD names (3 * k + 2) 0 ∷ [])
-        (getD s at 0 ∷ getD s (at + 1) 0 ∷ getD s (at + 2) 0 ∷ drop (at + 3) s)
+    -- the answer, where the name agrees or not
+    abbrev answer : Bool → ℕ
+    answer x = cond x (suc k) (first-name (suc (suc k)) (drop (3 * k + 3) names) (drop at s))
 
-    here : first-name (drop (3 * k) names) (drop at s) k
-        ≡ cond (begins (getD names (3 * k) 0 ∷ getD names (3 * k + 1) 0 ∷ getD names (3 * k + 2) 0 ∷ [])
-        (getD s at 0 ∷ getD s (at + 1) 0 ∷ getD s (at + 2) 0 ∷ drop (at + 3) s)) (some k) (first-name (drop (3 * k + 3) names) (drop at s) (suc k))
+    here : first-name (suc k) (drop (3 * k) names) (drop at s) ≡ answer (begins (three-at names (3 * k) []) (three-at s at (drop (at + 3) s)))
+    unfolding first-name
     here =
-        ap (λ (l : List ℕ). first-name l (drop at s) k) (three names (3 * k) (omega arith))
-        ∙ ap (λ (t : List ℕ). cond (begins (getD names (3 * k) 0 ∷ getD names (3 * k + 1) 0 ∷ getD names (3 * k + 2) 0 ∷ []) t) (some k) (first-name (drop (3 * k + 3) names) (drop at s) (suc k)))
-        (three s at long)
+        ap (λ (l : List ℕ). first-name (suc k) l (drop at s)) (three names (3 * k) (omega arith))
+        ∙ ap (λ (t : List ℕ). answer (begins (three-at names (3 * k) []) t)) (three s at long)
 
     zero-place : (n : ℕ) → n + 0 ≡ n
     zero-place n = omega arith
 
-    first-differs : (getD s at 0 ≡ getD names (3 * k) 0 → ⊥) → begins (getD names (3 * k) 0 ∷ getD names (3 * k + 1) 0 ∷ getD names (3 * k + 2) 0 ∷ []) (getD s at 0 ∷ getD s (at + 1) 0 ∷ getD s (at + 2) 0 ∷ drop (at + 3) s) ≡ false
-    first-differs e = rw (ne-eqb (getD s at 0) (getD names (3 * k) 0) e)
-
-    and-false : (x : Bool) → x && false ≡ false
-    and-false true = refl
-    and-false false = refl
-
     differ : (j : ℕ) → j < 3 → (getD s (at + j) 0 ≡ getD names (3 * k + j) 0 → ⊥)
-        → begins (getD names (3 * k) 0 ∷ getD names (3 * k + 1) 0 ∷ getD names (3 * k + 2) 0 ∷ []) (getD s at 0 ∷ getD s (at + 1) 0 ∷ getD s (at + 2) 0 ∷ drop (at + 3) s) ≡ false
-    differ zero h e = first-differs (λ q. e (ap (λ (n : ℕ). getD s n 0) (zero-place at) ∙ q ∙ ap (λ (n : ℕ). getD names n 0) (sym (zero-place (3 * k)))))
+        → begins (three-at names (3 * k) []) (three-at s at (drop (at + 3) s)) ≡ false
+    differ zero h e = rw (ne-eqb (getD s at 0) (getD names (3 * k) 0) first)
+      where
+        first : getD s at 0 ≡ getD names (3 * k) 0 → ⊥
+        first q = e (ap (λ (n : ℕ). getD s n 0) (zero-place at) ∙ q ∙ ap (λ (n : ℕ). getD names n 0) (sym (zero-place (3 * k))))
     differ (suc zero) h e = rw (ne-eqb (getD s (at + 1) 0) (getD names (3 * k + 1) 0) e) (and-false (eqb (getD s at 0) (getD names (3 * k) 0)))
     differ (suc (suc zero)) h e =
         rw (ne-eqb (getD s (at + 2) 0) (getD names (3 * k + 2) 0) e, and-false (eqb (getD s (at + 1) 0) (getD names (3 * k + 1) 0)))
@@ -161,33 +163,31 @@ module _ (names s : List ℕ) (at : ℕ) where
     passed-one p j h e =
         let z : 3 * k + 3 ≡ 3 * (k + 1) = omega arith in (
           omega arith,
-          p .1 ∙ here ∙ ap (λ (x : Bool). cond x (some k) (first-name (drop (3 * k + 3) names) (drop at s) (suc k))) (differ j h e)
-              ∙ ap (λ (n : ℕ). first-name (drop n names) (drop at s) (suc k)) z ∙ ap (first-name (drop (3 * (k + 1)) names) (drop at s)) (sym (add-one k)),
+          p .1 ∙ here ∙ ap answer (differ j h e)
+              ∙ ap (λ (n : ℕ). first-name (suc (suc k)) (drop n names) (drop at s)) z
+              ∙ ap (λ (n : ℕ). first-name (suc n) (drop (3 * (k + 1)) names) (drop at s)) (sym (add-one k)),
         )
 
-    pub found-here : Passed k → (j : ℕ) → 3 ≤ j → Agrees k j → k ≡ name-index names (drop at s)
-    unfolding name-index
-    found-here p j h e =
-        sym (ap (index (length names / 3)) (p .1 ∙ here ∙ ap (λ (x : Bool). cond x (some k) (first-name (drop (3 * k + 3) names) (drop at s) (suc k))) yes))
+    pub found-here : Passed k → (j : ℕ) → 3 ≤ j → Agrees k j → k + 1 ≡ first-name 1 names (drop at s)
+    found-here p j h e = add-one k ∙ sym (p .1 ∙ here ∙ ap answer yes)
       where
         one : getD s at 0 ≡ getD names (3 * k) 0
         one = ap (λ (n : ℕ). getD s n 0) (sym (zero-place at)) ∙ e 0 (omega arith) ∙ ap (λ (n : ℕ). getD names n 0) (zero-place (3 * k))
 
-        yes : begins (getD names (3 * k) 0 ∷ getD names (3 * k + 1) 0 ∷ getD names (3 * k + 2) 0 ∷ []) (getD s at 0 ∷ getD s (at + 1) 0 ∷ getD s (at + 2) 0 ∷ drop (at + 3) s) ≡ true
-        yes = rw (eq-eqb (getD s at 0) (getD names (3 * k) 0) one, eq-eqb (getD s (at + 1) 0) (getD names (3 * k + 1) 0) (e 1 (omega arith)), eq-eqb (getD s (at + 2) 0) (getD names (3 * k + 2) 0) (e 2 (omega arith)))
+        yes : begins (three-at names (3 * k) []) (three-at s at (drop (at + 3) s)) ≡ true
+        yes =
+            rw (eq-eqb (getD s at 0) (getD names (3 * k) 0) one, eq-eqb (getD s (at + 1) 0) (getD names (3 * k + 1) 0) (e 1 (omega arith)))
+            (rw (eq-eqb (getD s (at + 2) 0) (getD names (3 * k + 2) 0) (e 2 (omega arith))))
 
   pub agrees-more : (k j : ℕ) → Agrees k j → getD s (at + j) 0 ≡ getD names (3 * k + j) 0 → Agrees k (j + 1)
-  agrees-more k j a e = below-more-is
+  agrees-more k j a e i h = go (eqb i j) refl
     where
-      below-more-is : (i : ℕ) → i < j + 1 → getD s (at + i) 0 ≡ getD names (3 * k + i) 0
-      below-more-is i h = go (eqb i j) refl
+      go : (x : Bool) → eqb i j ≡ x → getD s (at + i) 0 ≡ getD names (3 * k + i) 0
+      go true q = rw (eqb-true i j q) e
+      go false q = a i (less i j h (eqb-false i j q))
         where
-          go : (x : Bool) → eqb i j ≡ x → getD s (at + i) 0 ≡ getD names (3 * k + i) 0
-          go true q = rw (eqb-true i j q) e
-          go false q = a i (less i j h (eqb-false i j q))
-            where
-              less : (i j : ℕ) → i < j + 1 → (i ≡ j → ⊥) → i < j
-              less i j h d = omega (arith, d)
+          less : (i j : ℕ) → i < j + 1 → (i ≡ j → ⊥) → i < j
+          less i j h d = omega (arith, d)
 
 -- ## The longest beginning of a name
 
@@ -233,7 +233,7 @@ module _ (names t : List ℕ) (best k : ℕ) (inv : larger best (longest (drop k
       sym (larger-none best) ∙ ap (larger best) (sym (few-names (drop k names) t 0 (omega (arith, length-drop k names)) .1)) ∙ inv
 
   module _ (at : k + 3 ≤ length names) where
-    part-is : take (k + 3 - k) (drop k names) ≡ getD names k 0 ∷ getD names (k + 1) 0 ∷ getD names (k + 2) 0 ∷ []
+    part-is : take (k + 3 - k) (drop k names) ≡ three-at names k []
     part-is =
         let e : k + 3 - k ≡ 3 = omega arith in
         ap (λ (n : ℕ). take n (drop k names)) e ∙ ap (take 3) (three names k at)
@@ -285,29 +285,30 @@ module _ (s : List ℕ) (at : ℕ) where
 
 -- ## A month and what follows it
 
-module _ (w s : List ℕ) (at k n : ℕ) (month : k ≡ name-index month-names (drop at s)) where
-  pub no-month : 12 ≤ k → n ≡ longest month-names (drop at s) → Stops (at + n) ≡ month-then w s at
+module _ (w s : List ℕ) (at m n : ℕ) (month : m ≡ first-name 1 month-names (drop at s)) where
+  pub no-month : m ≡ 0 → n ≡ longest month-names (drop at s) → Stops (at + n) ≡ month-then w s at
   unfolding month-then
-  no-month h e = ap (λ (m : ℕ). Stops (at + m)) e ∙ sym (ap (λ (t : Bool). cond t (Stops (at + longest month-names (drop at s))) found) (le-leb 12 (name-index month-names (drop at s)) (rw month at h)))
-    where
-      found : Tail
-      found = cond (ltb (fitting w (drop (at + 3) s)) (length w)) (Stops (at + 3 + fitting w (drop (at + 3) s)))
-          (cond (ltb (at + 3 + fitting w (drop (at + 3) s)) (length s)) (Stops (at + 3 + fitting w (drop (at + 3) s))) (Month (name-index month-names (drop at s) + 1)))
+  no-month z e =
+      ap (λ (k : ℕ). Stops (at + k)) e
+      ∙ ap (λ (k : ℕ). tail-of s at (length w) k (fitting w (drop (at + 3) s))) (sym z ∙ month)
 
-  module _ (h : k < 12) (fit : n ≡ fitting w (drop (at + 3) s)) where
-    found-month : cond (ltb n (length w)) (Stops (at + 3 + n)) (cond (ltb (at + 3 + n) (length s)) (Stops (at + 3 + n)) (Month (k + 1))) ≡ month-then w s at
+  module _ (h : m ≡ 0 → ⊥) (fit : n ≡ fitting w (drop (at + 3) s)) where
+    found-month : tail-of s at (length w) m n ≡ month-then w s at
     unfolding month-then
-    found-month = rw (fit, month) (rw (lt-leb 12 (name-index month-names (drop at s)) (rw month at h)))
+    found-month = ap₂ (tail-of s at (length w)) month fit
 
     pub shape-stops : n < length w → Stops (at + 3 + n) ≡ month-then w s at
-    shape-stops l = ap (λ (t : Bool). cond t (Stops (at + 3 + n)) (cond (ltb (at + 3 + n) (length s)) (Stops (at + 3 + n)) (Month (k + 1)))) (sym (lt-ltb n (length w) l)) ∙ found-month
+    shape-stops l =
+        let e : tail-of s at (length w) m n ≡ Stops (at + 3 + n) = rw (ne-eqb m 0 h, lt-ltb n (length w) l) in
+        sym e ∙ found-month
 
     module _ (l : length w ≤ n) where
-      whole : cond (ltb (at + 3 + n) (length s)) (Stops (at + 3 + n)) (Month (k + 1)) ≡ month-then w s at
-      whole = ap (λ (t : Bool). cond t (Stops (at + 3 + n)) (cond (ltb (at + 3 + n) (length s)) (Stops (at + 3 + n)) (Month (k + 1)))) (sym (le-ltb n (length w) l)) ∙ found-month
-
       pub text-goes-on : at + 3 + n < length s → Stops (at + 3 + n) ≡ month-then w s at
-      text-goes-on f = ap (λ (t : Bool). cond t (Stops (at + 3 + n)) (Month (k + 1))) (sym (lt-ltb (at + 3 + n) (length s) f)) ∙ whole
+      text-goes-on f =
+          let e : tail-of s at (length w) m n ≡ Stops (at + 3 + n) = rw (ne-eqb m 0 h, le-ltb n (length w) l, lt-ltb (at + 3 + n) (length s) f) in
+          sym e ∙ found-month
 
-      pub month-is : length s ≤ at + 3 + n → Month (k + 1) ≡ month-then w s at
-      month-is f = ap (λ (t : Bool). cond t (Stops (at + 3 + n)) (Month (k + 1))) (sym (le-ltb (at + 3 + n) (length s) f)) ∙ whole
+      pub month-is : length s ≤ at + 3 + n → Month m ≡ month-then w s at
+      month-is f =
+          let e : tail-of s at (length w) m n ≡ Month m = rw (ne-eqb m 0 h, le-ltb n (length w) l, le-ltb (at + 3 + n) (length s) f) in
+          sym e ∙ found-month

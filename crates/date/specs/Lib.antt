@@ -1,5 +1,4 @@
 pub mod Grammar
 pub mod Reading
 pub mod Names
-pub mod Writing
 pub mod helpers

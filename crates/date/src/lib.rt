@@ -1,22 +1,23 @@
 // HTTP dates: RFC 2616 3.3.1.
 ghost use mathlib.Core.Path.{_≡_};
-ghost use Prim.Native.Nat.{_+_, _-_, _/_, _%_, _≤_, _<_};
-ghost use lib.ListN.{length, drop, getD};
+ghost use Prim.Native.Nat.{_+_, _-_, _≤_, _<_};
+ghost use lib.ListN.{length, drop};
 ghost use Rattle.grammar.specs.helpers.Judge.{header};
 ghost use Rattle.grammar.specs.helpers.Scans.{slice};
 ghost use Rattle.octets.specs.Numbers.{number};
-ghost use Rattle.octets.specs.Writing.{written};
-ghost use Rattle.date.specs.Grammar.{fixed, plain, full-year, rules};
+ghost use Rattle.date.specs.Grammar.{rfc1123, asctime, full-year, rules};
 ghost use Rattle.date.specs.Reading.{verdict};
-ghost use Rattle.date.specs.helpers.Scan.{Goes, AfterDay, AtDashed, dashed-head, name-index, month-then, judged, year-from, Ending};
-ghost use Rattle.date.specs.Writing.{date-text, date-writing, date-output, tens, ones};
+ghost use Rattle.date.specs.Names.{first-name};
+ghost use Rattle.date.specs.helpers.Scan.{Goes, AfterDay, AtRfc850, rfc850-head, month-then, judged, year-from, Ending};
 ghost use Rattle.octets.specs.helpers.Shapes.{stands-for, fitting};
 ghost use Rattle.date.specs.helpers.Shapes.{standing, longest};
 use calendar::Fields;
 use calendar::Located;
-use calendar::Told;
+use octets::MALFORMED;
+use octets::NO_SUCH_DATE;
 use octets::Refusal;
-use octets::Written;
+use octets::VALUE_TOO_LONG;
+use octets::WRONG_DAY_NAME;
 
 // A date and a time of day, and the seconds since 1970-01-01 00:00:00.
 pub struct Date {
@@ -44,115 +45,28 @@ struct Places {
     time: usize,
 }
 
-// The bytes of the form that is written.
-const TEXT_LEN: usize = 29;
+pub const DAYS: [u8; 21] = *b"MonTueWedThuFriSatSun";
 
-const DAYS: [u8; 21] = *b"MonTueWedThuFriSatSun";
-
-const MONTHS: [u8; 36] = *b"JanFebMarAprMayJunJulAugSepOctNovDec";
+pub const MONTHS: [u8; 36] = *b"JanFebMarAprMayJunJulAugSepOctNovDec";
 
 // Reads a date of any of the three forms.
 pub fn read(s: &[u8]) -> Reading
     ensures { λ r. ⌜ verdict r ≡ header rules (now (s .entry)) ⌝ }
 {
     if s.len() > octets::VALUE_LIMIT {
-        return refused(13, octets::VALUE_LIMIT);
+        return Reading::Refused(Refusal {
+            number: VALUE_TOO_LONG,
+            place: octets::VALUE_LIMIT,
+        });
     }
-    let day = name_at(&DAYS, s, 0);
-    if day >= 7 {
-        return refused(1, longest_at(&DAYS, s, 0));
+    let number = first_name(&DAYS, s, 0);
+    if number == 0 {
+        return Reading::Refused(Refusal {
+            number: MALFORMED,
+            place: longest_at(&DAYS, s, 0),
+        });
     }
-    read_form(s, day)
-}
-
-// Writes an instant at the front of `out`, in the form of RFC 1123, and keeps the rest of `out`.
-pub fn write(seconds: i64, out: &mut [u8]) -> Written
-    ensures answers { λ r. ⌜ written r ≡ date-writing seconds (length (now (out .entry))) ⌝ }
-    ensures writes { λ _. ⌜ now (out .exit) ≡ date-output seconds (now (out .entry)) ⌝ }
-{
-    match calendar::fields_at(seconds) {
-        Told::Outside => unwritten(9),
-        Told::On { fields, weekday } => {
-            if out.len() < TEXT_LEN {
-                return unwritten(8);
-            }
-            let text = text_of(weekday as usize, fields);
-            text::put_bytes(&text, out, 0);
-            Written::Length(TEXT_LEN)
-        }
-    }
-}
-
-fn unwritten(number: u8) -> Written
-    ensures { λ r. ⌜ r ≡ Written.Refused (record { number = number; place = 0 }) ⌝ }
-{
-    Written::Refused(Refusal { number, place: 0 })
-}
-
-// `Sun, 06 Nov 1994 08:49:37 GMT`
-fn text_of(weekday: usize, f: Fields) -> [u8; 29]
-    requires { ⌜ (weekday < 7) × (1 ≤ f .month) × (f .month ≤ 12) ⌝ }
-    ensures { λ r. ⌜ r ≡ date-text weekday f ⌝ }
-{
-    let d = 3 * weekday;
-    let m = 3 * (f.month as usize - 1);
-    let c = f.year / 100;
-    [
-        letter(&DAYS, d),
-        letter(&DAYS, d + 1),
-        letter(&DAYS, d + 2),
-        b',',
-        b' ',
-        tens_digit(f.day),
-        ones_digit(f.day),
-        b' ',
-        letter(&MONTHS, m),
-        letter(&MONTHS, m + 1),
-        letter(&MONTHS, m + 2),
-        b' ',
-        tens_digit(c),
-        ones_digit(c),
-        tens_digit(f.year),
-        ones_digit(f.year),
-        b' ',
-        tens_digit(f.hour),
-        ones_digit(f.hour),
-        b':',
-        tens_digit(f.minute),
-        ones_digit(f.minute),
-        b':',
-        tens_digit(f.second),
-        ones_digit(f.second),
-        b' ',
-        b'G',
-        b'M',
-        b'T',
-    ]
-}
-
-fn letter(names: &[u8], place: usize) -> u8
-    requires { ⌜ place < length (now names) ⌝ }
-    ensures { λ r. ⌜ r ≡ getD (now (names .entry)) place 0 ⌝ }
-{
-    names[place]
-}
-
-fn tens_digit(n: u32) -> u8
-    ensures { λ r. ⌜ r ≡ tens n ⌝ }
-{
-    (48 + n / 10 % 10) as u8
-}
-
-fn ones_digit(n: u32) -> u8
-    ensures { λ r. ⌜ r ≡ ones n ⌝ }
-{
-    (48 + n % 10) as u8
-}
-
-fn refused(number: u8, place: usize) -> Reading
-    ensures { λ r. ⌜ r ≡ Reading.Refused (record { number = number; place = place }) ⌝ }
-{
-    Reading::Refused(Refusal { number, place })
+    read_form(s, number - 1)
 }
 
 // Behind the short name of a day.
@@ -161,28 +75,31 @@ fn read_form(s: &[u8], day: usize) -> Reading
     ensures { λ r. ⌜ verdict r ≡ header rules (now (s .entry)) ⌝ }
 {
     if byte_is(s, 3, b',') {
-        return read_fixed(s, day);
+        return read_rfc1123(s, day);
     }
     if byte_is(s, 3, b' ') {
-        return read_plain(s, day);
+        return read_asctime(s, day);
     }
     match day {
-        1 => read_dashed(s, day, b"sday, 00-"),
-        2 => read_dashed(s, day, b"nesday, 00-"),
-        3 => read_dashed(s, day, b"rsday, 00-"),
-        5 => read_dashed(s, day, b"urday, 00-"),
-        _ => read_dashed(s, day, b"day, 00-"),
+        1 => read_rfc850(s, day, b"sday, 00-"),
+        2 => read_rfc850(s, day, b"nesday, 00-"),
+        3 => read_rfc850(s, day, b"rsday, 00-"),
+        5 => read_rfc850(s, day, b"urday, 00-"),
+        _ => read_rfc850(s, day, b"day, 00-"),
     }
 }
 
 // `, 06 Nov 1994 08:49:37 GMT`
-fn read_fixed(s: &[u8], day: usize) -> Reading
-    requires { ⌜ Goes fixed (now s) day ⌝ }
+fn read_rfc1123(s: &[u8], day: usize) -> Reading
+    requires { ⌜ Goes rfc1123 (now s) day ⌝ }
     ensures { λ r. ⌜ verdict r ≡ header rules (now (s .entry)) ⌝ }
 {
-    let n = fitting_at(b", 00 ", s, 3);
-    if n < 5 {
-        return refused(1, 3 + n);
+    let fits = fitting_at(b", 00 ", s, 3);
+    if fits < 5 {
+        return Reading::Refused(Refusal {
+            number: MALFORMED,
+            place: 3 + fits,
+        });
     }
     let places = Places {
         month: 8,
@@ -195,16 +112,19 @@ fn read_fixed(s: &[u8], day: usize) -> Reading
 }
 
 // `day, 06-Nov-94 08:49:37 GMT`: the head is all before the month.
-fn read_dashed(s: &[u8], day: usize, head: &[u8]) -> Reading
-    requires { ⌜ AtDashed (now s) day ⌝ }
-    requires { ⌜ now head ≡ dashed-head day ⌝ }
+fn read_rfc850(s: &[u8], day: usize, head: &[u8]) -> Reading
+    requires { ⌜ AtRfc850 (now s) day ⌝ }
+    requires { ⌜ now head ≡ rfc850-head day ⌝ }
     ensures { λ r. ⌜ verdict r ≡ header rules (now (s .entry)) ⌝ }
 {
-    let n = fitting_at(head, s, 3);
-    if n < head.len() {
-        return refused(1, 3 + n);
+    let fits = fitting_at(head, s, 3);
+    if fits < head.len() {
+        return Reading::Refused(Refusal {
+            number: MALFORMED,
+            place: 3 + fits,
+        });
     }
-    let at = 3 + n;
+    let at = 3 + fits;
     let places = Places {
         month: at,
         year: at + 4,
@@ -216,13 +136,16 @@ fn read_dashed(s: &[u8], day: usize, head: &[u8]) -> Reading
 }
 
 // ` Nov  6 08:49:37 1994`
-fn read_plain(s: &[u8], day: usize) -> Reading
-    requires { ⌜ Goes plain (now s) day ⌝ }
+fn read_asctime(s: &[u8], day: usize) -> Reading
+    requires { ⌜ Goes asctime (now s) day ⌝ }
     ensures { λ r. ⌜ verdict r ≡ header rules (now (s .entry)) ⌝ }
 {
-    let n = fitting_at(b" ", s, 3);
-    if n < 1 {
-        return refused(1, 3);
+    let fits = fitting_at(b" ", s, 3);
+    if fits < 1 {
+        return Reading::Refused(Refusal {
+            number: MALFORMED,
+            place: 3,
+        });
     }
     let places = Places {
         month: 4,
@@ -243,7 +166,10 @@ fn read_tail(s: &[u8], day: usize, tail: &[u8], places: Places) -> Reading
     ensures { λ r. ⌜ verdict r ≡ header rules (now (s .entry)) ⌝ }
 {
     match month_then(tail, s, places.month) {
-        Tail::Stops(place) => refused(1, place),
+        Tail::Stops(place) => Reading::Refused(Refusal {
+            number: MALFORMED,
+            place,
+        }),
         Tail::Month(month) => judge(
             day,
             Fields {
@@ -263,10 +189,16 @@ fn judge(named: usize, fields: Fields) -> Reading
     ensures { λ r. ⌜ verdict r ≡ judged named fields ⌝ }
 {
     match calendar::locate(fields) {
-        Located::Nowhere => refused(3, 0),
+        Located::Nowhere => Reading::Refused(Refusal {
+            number: NO_SUCH_DATE,
+            place: 0,
+        }),
         Located::At { seconds, weekday } => {
             if weekday as usize != named {
-                return refused(4, 0);
+                return Reading::Refused(Refusal {
+                    number: WRONG_DAY_NAME,
+                    place: 0,
+                });
             }
             Reading::Read(Date { fields, seconds })
         }
@@ -278,36 +210,36 @@ fn month_then(shape: &[u8], s: &[u8], at: usize) -> Tail
     requires { ⌜ at + length (now shape) < 8192 ⌝ }
     ensures { λ r. ⌜ r ≡ month-then (now (shape .entry)) (now (s .entry)) at ⌝ }
 {
-    let index = name_at(&MONTHS, s, at);
-    if index >= 12 {
+    let month = first_name(&MONTHS, s, at);
+    if month == 0 {
         return Tail::Stops(at + longest_at(&MONTHS, s, at));
     }
-    let n = fitting_at(shape, s, at + 3);
-    let end = at + 3 + n;
-    if n < shape.len() {
+    let fits = fitting_at(shape, s, at + 3);
+    let end = at + 3 + fits;
+    if fits < shape.len() {
         return Tail::Stops(end);
     }
     if end < s.len() {
         return Tail::Stops(end);
     }
-    Tail::Month(index as u32 + 1)
+    Tail::Month(month as u32)
 }
 
-// The first name in a table of names of three bytes that agrees with the bytes at `at`, or the number of names.
-fn name_at(names: &[u8], s: &[u8], at: usize) -> usize
-    ensures { λ r. ⌜ r ≡ name-index (now (names .entry)) (drop at (now (s .entry))) ⌝ }
+// The number of the first name in a table that agrees with the three bytes at `at`, counted from 1; 0 where none does.
+fn first_name(names: &[u8], s: &[u8], at: usize) -> usize
+    ensures { λ r. ⌜ r ≡ first-name 1 (now (names .entry)) (drop at (now (s .entry))) ⌝ }
 {
-    let count = names.len() / 3;
     if at > s.len() {
-        return count;
+        return 0;
     }
     if s.len() - at < 3 {
-        return count;
+        return 0;
     }
+    let count = names.len() / 3;
     let mut k = 0;
-    let found = 'names: loop {
+    let number = 'names: loop {
         if k >= count {
-            break 'names count;
+            break 'names 0;
         }
         let mut j = 0;
         while j < 3 {
@@ -317,9 +249,9 @@ fn name_at(names: &[u8], s: &[u8], at: usize) -> usize
             }
             j += 1;
         }
-        break 'names k;
+        break 'names k + 1;
     };
-    found
+    number
 }
 
 // The most bytes at `at` that are of a name in the table.
@@ -329,12 +261,12 @@ fn longest_at(names: &[u8], s: &[u8], at: usize) -> usize
     let mut best = 0;
     let mut k = 0;
     while 3 <= names.len() - k {
-        let e = k + 3;
-        let n = fitting_at(&names[k..e], s, at);
-        if best < n {
-            best = n;
+        let end = k + 3;
+        let fits = fitting_at(&names[k..end], s, at);
+        if best < fits {
+            best = fits;
         }
-        k = e;
+        k = end;
     }
     best
 }
@@ -406,7 +338,7 @@ fn digit_value(b: u8) -> u32
     ensures is { λ r. ⌜ r ≡ b - 48 ⌝ }
     ensures small { λ r. ⌜ r < 256 ⌝ }
 {
-    if b < 48 { 0 } else { (b - 48) as u32 }
+    if b < b'0' { 0 } else { (b - b'0') as u32 }
 }
 
 // A two-digit year from 70 to 99 means 1970 to 1999, and 00 to 69 means 2000 to 2069.

@@ -17,16 +17,18 @@ use Rattle.grammar.specs.helpers.Judge.{header}
 use Rattle.grammar.specs.helpers.Scans.{slice, from}
 use Rattle.grammar.proofs.Loop.{header-short}
 use Rattle.grammar.proofs.Scans.{ends-well, goes-too-far}
-use Rattle.octets.specs.declared.Decimal.the-variants.{Number, Above, Missing}
 use Rattle.octets.specs.Bytes.{digit?}
-use Rattle.octets.specs.Numbers.{number, decimal-at}
+use Rattle.octets.specs.Numbers.{number}
+use Rattle.scans.specs.declared.Decimal.the-variants.{Number, Above, Missing}
+use Rattle.scans.specs.helpers.Decimals.{decimal-at}
 use Rattle.scans.proofs.Scans.{number-of, number-fits, number-reads, number-missing, number-passes, number-limits}
 use Rattle.delta.specs.Grammar.{Name, seconds, largest, rules}
 
 apart : (j b : ℕ) → digit? b ≡ true → deriv {L = Name} empty j b ≡ void
 apart j b d = refl
 
-limits : (n : ℕ) (t : List ℕ) → rules .limit n ([] ++ record { label = seconds; start = 0; text = t } ∷ []) ≡ cond (ltb largest (number t)) (some above) none
+limits : (n : ℕ) (t : List ℕ)
+    → rules .limit n ([] ++ record { label = seconds; start = 0; text = t } ∷ []) ≡ cond (ltb largest (number t)) (some above) none
 limits = number-limits (λ l. true) largest [] refl seconds 0 refl
 
 module _ (s : List ℕ) (short : length s ≤ 8192) where
@@ -34,7 +36,8 @@ module _ (s : List ℕ) (short : length s ≤ 8192) where
   seconds-missing d = header-short rules s short ∙ number-missing rules s [] seconds empty refl refl apart 0 (omega arith) largest limits d
 
   pub seconds-pass : (p e : ℕ) → decimal-at largest s 0 ≡ Above p e → header rules s ≡ refused 2 p
-  seconds-pass p e d = header-short rules s short ∙ number-passes rules s [] seconds empty refl refl apart 0 (omega arith) largest limits p e d
+  seconds-pass p e d =
+      header-short rules s short ∙ number-passes rules s [] seconds empty refl refl apart 0 (omega arith) largest limits p e d
 
   module _ (v e : ℕ) (d : decimal-at largest s 0 ≡ Number v e) where
     abbrev cs : List (Part Name)

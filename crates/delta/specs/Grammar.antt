@@ -15,7 +15,7 @@ pub data Name : Type 0 where
 abbrev pub delta-seconds : Grammar Name
 delta-seconds = part seconds (plus (byte DIGIT))
 
--- leading zeros are ignored
+-- leading zeros are ignored; a text that is read has one part, so that no reading reaches the first clause
 abbrev pub value : List (Part Name) → Seconds
 value [] = record { value = 0 }
 value (c ∷ ps) = record { value = number (c .text) }

@@ -3,8 +3,12 @@ ghost use mathlib.Core.Path.{_≡_};
 ghost use Rattle.grammar.specs.helpers.Judge.{header};
 ghost use Rattle.delta.specs.Grammar.{rules};
 ghost use Rattle.delta.specs.Reading.{verdict};
-use octets::Decimal;
+use octets::MALFORMED;
+use octets::NUMBER_ABOVE_LIMIT;
 use octets::Refusal;
+use octets::VALUE_LIMIT;
+use octets::VALUE_TOO_LONG;
+use scans::Decimal;
 
 // The largest number of seconds.
 const SECONDS_LIMIT: u64 = 2147483647;
@@ -22,25 +26,31 @@ pub enum Reading {
 pub fn read(s: &[u8]) -> Reading
     ensures { λ r. ⌜ verdict r ≡ header rules (now (s .entry)) ⌝ }
 {
-    if s.len() > octets::VALUE_LIMIT {
-        return refused(13, octets::VALUE_LIMIT);
+    if s.len() > VALUE_LIMIT {
+        return Reading::Refused(Refusal {
+            number: VALUE_TOO_LONG,
+            place: VALUE_LIMIT,
+        });
     }
-    match octets::read_decimal(s, 0, SECONDS_LIMIT) {
-        Decimal::Above { place, end: _ } => refused(2, place),
-        Decimal::Missing => refused(1, 0),
+    match scans::read_decimal(s, 0, SECONDS_LIMIT) {
+        Decimal::Above { place, end: _ } => Reading::Refused(Refusal {
+            number: NUMBER_ABOVE_LIMIT,
+            place,
+        }),
+        Decimal::Missing => Reading::Refused(Refusal {
+            number: MALFORMED,
+            place: 0,
+        }),
         Decimal::Number { value, end } => {
             if end < s.len() {
-                return refused(1, end);
+                return Reading::Refused(Refusal {
+                    number: MALFORMED,
+                    place: end,
+                });
             }
             Reading::Read(Seconds {
                 value: value as u32,
             })
         }
     }
-}
-
-fn refused(number: u8, place: usize) -> Reading
-    ensures { λ r. ⌜ r ≡ Reading.Refused (record { number = number; place = place }) ⌝ }
-{
-    Reading::Refused(Refusal { number, place })
 }

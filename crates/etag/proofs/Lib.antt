@@ -1,4 +1,5 @@
 pub mod Scan
 pub mod Within
 pub mod Parts
+pub mod Matching
 pub mod Demands

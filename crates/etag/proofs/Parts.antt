@@ -1,22 +1,19 @@
--- The parts of a well-formed tag: the quoted bytes, and before them the mark of a weak one.
-use Prim.Native.Nat.{ℕ}
-use mathlib.Core.Path.{_≡_, refl, sym, ap, ap₂, subst, _∙_}
-use mathlib.Core.Logic.{_⊎_, inl, inr}
+-- The parts of a well-formed tag: the opaque bytes, and before them the mark of a weak one.
+use Prim.Native.Nat.{ℕ, suc}
+use mathlib.Core.Path.{_≡_, refl, ap, ap₂, subst, _∙_}
+use mathlib.Core.Logic.{inl, inr}
+use mathlib.Core.Bool.{Bool, true, false}
 use mathlib.Core.List.{List, [], _∷_, _++_}
-use Rattle.grammar.specs.Grammar.{Part, Grammar, empty, byte, _⨾_, _∣_, star, part, spell, fold, Parses}
-use Rattle.grammar.specs.helpers.Slices.{Slices}
-use Rattle.grammar.proofs.Pieces.{slice-is}
-use Rattle.grammar.proofs.Plain.{Plain, plain-empty, plain-byte, plain-seq, plain-either, plain-star, behind-plain, before-plain, plain-part, both-parts}
-use Rattle.grammar.proofs.Slices.{slices}
+use lib.Dec.{T, eqb, eqb→eq}
+use lib.ListN.{length}
+use lib.Seq.{take-at}
+use Rattle.grammar.specs.Grammar.{Part, empty, byte, _⨾_, _∣_, spell, fold, lower, past, Parses}
+use Rattle.grammar.proofs.Plain.{Plain, plain-empty, plain-byte, plain-seq, plain-either, plain-star, plain-part}
+use Rattle.octets.specs.Case.{alike}
 use Rattle.octets.specs.Classes.{TEXT, ESCAPED}
-use Rattle.octets.specs.Quoted.{QUOTE, BACKSLASH, quoted-text}
+use Rattle.octets.specs.Quoted.{BACKSLASH, quoted-text}
 use Rattle.etag.specs.Grammar.{Name, weak, opaque, mark, opaque-tag, entity-tag, value}
-use Rattle.etag.specs.Reading.{quoted}
-
--- start and length of the value are those of the bytes between the quotes
-pub data TagParts (s : List ℕ) : List (Part Name) → Type 0 where
-  strong-tag : (c : Part Name) → c .label ≡ opaque → quoted s (value (c ∷ [])) ≡ c .text → TagParts s (c ∷ [])
-  weak-tag : (m c : Part Name) → m .label ≡ weak → c .label ≡ opaque → quoted s (value (m ∷ c ∷ [])) ≡ c .text → TagParts s (m ∷ c ∷ [])
+use Rattle.etag.specs.Parts.{between-quotes, StrongTag, WeakTag, TagParts}
 
 plain-text : Plain {L = Name} quoted-text
 plain-text =
@@ -29,34 +26,85 @@ plain-mark =
     plain-seq (byte (fold 87 tt)) (byte (fold 47 tt) ⨾ empty) (plain-byte (fold 87 tt))
     (plain-seq (byte (fold 47 tt)) empty (plain-byte (fold 47 tt)) plain-empty)
 
-opaque-parts : (i : ℕ) (u : List ℕ) (rs : List (Part Name)) → Parses opaque-tag i u rs → (c : Part Name) × (c .label ≡ opaque) × (rs ≡ c ∷ [])
-opaque-parts i u rs p =
-    let q = behind-plain (byte QUOTE) (part opaque quoted-text ⨾ byte QUOTE) (plain-byte QUOTE) i u rs p in
-    let w = before-plain (part opaque quoted-text) (byte QUOTE) (plain-byte QUOTE) (q .0) (q .1) rs (q .2) in
-    (record { label = opaque; start = q .0; text = w .0 }, refl, plain-part opaque quoted-text plain-text (q .0) (w .0) rs (w .1))
+-- ## The opaque bytes and the mark
 
-mark-parts : (t : List ℕ) (qs : List (Part Name)) → Parses (empty ∣ part weak (spell mark tt empty)) 0 t qs
-    → (qs ≡ []) ⊎ ((m : Part Name) × (m .label ≡ weak) × (qs ≡ m ∷ []))
-mark-parts t qs (inl p) = inl (plain-empty 0 t qs p)
-mark-parts t qs (inr p) = inr (record { label = weak; start = 0; text = t }, refl, plain-part weak (spell mark tt empty) plain-mark 0 t qs p)
+abbrev opaque-part : ℕ → List ℕ → Part Name
+opaque-part j t = record { label = opaque; start = j; text = t }
+
+record Opaque (j : ℕ) (u : List ℕ) (rs : List (Part Name)) : Type 0 where
+  inside : List ℕ
+  text : u ≡ between-quotes inside
+  parts : rs ≡ opaque-part (suc j) inside ∷ []
+
+opaque-parts : (j : ℕ) (u : List ℕ) (rs : List (Part Name)) → Parses opaque-tag j u rs → Opaque j u rs
+opaque-parts j u rs p =
+    let q = p .7 in
+    let first = p .6 .1 ∙ ap (λ (b : ℕ). b ∷ []) (eqb→eq (p .6 .0) 34 (p .6 .2)) in
+    let last = q .7 .1 ∙ ap (λ (b : ℕ). b ∷ []) (eqb→eq (q .7 .0) 34 (q .7 .2)) in
+    let one = plain-part opaque quoted-text plain-text (past j (p .0)) (q .0) (q .2) (q .6) in
+    record {
+      inside = q .0;
+      text = p .4 ∙ ap₂ (λ (x y : List ℕ). x ++ y) first (q .4 ∙ ap (λ (x : List ℕ). q .0 ++ x) last);
+      parts = p .5 ∙ ap₂ (λ (x y : List (Part Name)). x ++ y) (p .6 .3) (q .5 ∙ ap₂ (λ (x y : List (Part Name)). x ++ y) one (q .7 .3))
+          ∙ ap (λ (x : List ℕ). opaque-part (past j x) (q .0) ∷ []) first;
+    }
+
+holds : (x : Bool) → T x → x ≡ true
+holds true h = refl
+holds false h = absurd h
+
+record Mark (t : List ℕ) : Type 0 where
+  first : ℕ
+  second : ℕ
+  text : t ≡ first ∷ second ∷ []
+  same : alike (first ∷ second ∷ []) mark ≡ true
+
+mark-text : (t : List ℕ) (qs : List (Part Name)) → Parses (spell mark tt empty) 0 t qs → Mark t
+mark-text t qs p =
+    let q = p .7 in
+    record {
+      first = p .6 .0;
+      second = q .6 .0;
+      text = p .4
+          ∙ ap₂ (λ (x y : List ℕ). x ++ y) (p .6 .1) (q .4 ∙ ap₂ (λ (x y : List ℕ). x ++ y) (q .6 .1) (q .7 .0));
+      same = rw (holds (eqb (lower (p .6 .0)) (lower 87)) (p .6 .2), holds (eqb (lower (q .6 .0)) (lower 47)) (q .6 .2));
+    }
+
+-- ## The tag
+
+strong-tag : (s u : List ℕ) (ps rs : List (Part Name)) → s ≡ u → ps ≡ rs → Opaque 0 u rs → StrongTag s ps
+strong-tag s u ps rs e f o =
+    let parts = f ∙ o .parts in
+    let text = e ∙ o .text in
+    record {
+      inside = o .inside;
+      text = text;
+      parts = parts;
+      tag = ap value parts;
+      sent = rw (parts, text) (take-at (o .inside) (34 ∷ []) (length (o .inside)) refl);
+    }
+
+weak-tag : (s t u : List ℕ) (ps rs : List (Part Name)) → s ≡ t ++ u → ps ≡ record { label = weak; start = 0; text = t } ∷ rs → Mark t
+    → Opaque (past 0 t) u rs → WeakTag s ps
+weak-tag s t u ps rs e f m o =
+    let before : Part Name = record { label = weak; start = 0; text = t } in
+    let place : past 0 t ≡ 2 = ap (past 0) (m .text) in
+    let parts = f ∙ ap (λ (r : List (Part Name)). before ∷ r) (o .parts ∙ ap (λ (n : ℕ). opaque-part (suc n) (o .inside) ∷ []) place) in
+    let text = e ∙ ap (λ (x : List ℕ). t ++ x) (o .text) in
+    record {
+      before = t;
+      inside = o .inside;
+      marked = rw (m .text) (m .same);
+      text = text;
+      parts = parts;
+      tag = ap value parts;
+      sent = rw (parts, text, m .text) (take-at (o .inside) (34 ∷ []) (length (o .inside)) refl);
+    }
 
 pub tag-parts : (s : List ℕ) (ps : List (Part Name)) → Parses entity-tag 0 s ps → TagParts s ps
-tag-parts s ps p = go (mark-parts (b .0) (b .3) (b .6))
-  where
-    b : (t : List ℕ) × (j : ℕ) × (u : List ℕ) × (qs : List (Part Name)) × (rs : List (Part Name)) × (ps ≡ qs ++ rs)
-        × Parses (empty ∣ part weak (spell mark tt empty)) 0 t qs × Parses opaque-tag j u rs
-    b = both-parts (empty ∣ part weak (spell mark tt empty)) opaque-tag 0 s ps p
-
-    o : (c : Part Name) × (c .label ≡ opaque) × (b .4 ≡ c ∷ [])
-    o = opaque-parts (b .1) (b .2) (b .4) (b .7)
-
-    w : Slices 0 s ps
-    w = slices entity-tag 0 s ps tt p
-
-    go : (b .3 ≡ []) ⊎ ((m : Part Name) × (m .label ≡ weak) × (b .3 ≡ m ∷ [])) → TagParts s ps
-    go (inl e) =
-        let x : ps ≡ o .0 ∷ [] = b .5 ∙ ap₂ (λ (y z : List (Part Name)). y ++ z) e (o .2) in
-        subst (TagParts s) (sym x) (strong-tag (o .0) (o .1) (slice-is s (o .0) (subst (Slices 0 s) x w .0)))
-    go (inr m) =
-        let x : ps ≡ m .0 ∷ o .0 ∷ [] = b .5 ∙ ap₂ (λ (y z : List (Part Name)). y ++ z) (m .2) (o .2) in
-        subst (TagParts s) (sym x) (weak-tag (m .0) (o .0) (m .1) (o .1) (slice-is s (o .0) (subst (Slices 0 s) x w .1 .0)))
+tag-parts s ps (t, u, qs, rs, e, f, inl p, q) =
+    let o = opaque-parts 0 u rs (subst (λ (x : List ℕ). Parses opaque-tag (past 0 x) u rs) (p .0) q) in
+    inl (strong-tag s u ps rs (e ∙ ap (λ (x : List ℕ). x ++ u) (p .0)) (f ∙ ap (λ (x : List (Part Name)). x ++ rs) (p .1)) o)
+tag-parts s ps (t, u, qs, rs, e, f, inr p, q) =
+    let one = plain-part weak (spell mark tt empty) plain-mark 0 t qs p in
+    inr (weak-tag s t u ps rs e (f ∙ ap (λ (x : List (Part Name)). x ++ rs) one) (mark-text t (p .0) (p .2)) (opaque-parts (past 0 t) u rs q))

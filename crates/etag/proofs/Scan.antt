@@ -10,18 +10,19 @@ use lib.Dec.{eqb}
 use lib.ListN.{length, getD}
 use Rattle.grammar.specs.Grammar.{Part, Grammar, void, empty, byte, _⨾_, part, rest, fold, lower}
 use Rattle.grammar.specs.helpers.Derivative.{live, deriv}
-use Rattle.grammar.specs.Reading.{Verdict, value, refused}
+use Rattle.grammar.specs.Reading.{value, refused}
 use Rattle.grammar.specs.helpers.Checks.{ahead}
 use Rattle.grammar.specs.helpers.Judge.{turn, judge, header}
 use Rattle.grammar.specs.helpers.Scans.{slice, from}
 use Rattle.grammar.proofs.Loop.{header-short}
 use Rattle.grammar.proofs.Scans.{goes-on, stops-at, ends-early, first-is, first-not, first-none, ends-well, goes-too-far}
 use Rattle.grammar.proofs.Pieces.{slice-length}
-use Rattle.octets.specs.Case.{agreeing}
-use Rattle.octets.specs.Quoted.{QUOTE, quoted-text, quoted-end}
+use Rattle.octets.specs.Quoted.{QUOTE, quoted-text}
+use Rattle.scans.specs.helpers.Words.{agreeing}
+use Rattle.scans.specs.helpers.Quoted.{quoted-end}
 use Rattle.scans.proofs.Quoted.{quoted-closed, quoted-bad, quoted-cut-off}
 use Rattle.etag.specs.Grammar.{Name, weak, opaque, mark, opaque-tag, entity-tag, rules}
-use Rattle.etag.specs.helpers.Scan.{AfterMark}
+use Rattle.etag.specs.helpers.Scan.{AfterMark, AfterQuote}
 
 -- ## The mark
 
@@ -107,32 +108,45 @@ module _ (s : List ℕ) (t : Bool) (i : ℕ) (w : AfterMark s t i) where
     pub quote-not : (getD s i 0 ≡ 34 → ⊥) → header rules s ≡ refused 1 i
     quote-not h = w .reads ∙ first-not rules s (w .marks) QUOTE (part opaque quoted-text ⨾ byte QUOTE) refl i at (ne-eqb (getD s i 0) 34 h)
 
-    module _ (q : getD s i 0 ≡ 34) (e : ℕ) (d : e ≡ quoted-end s (i + 1)) where
-      opened : header rules s ≡ from rules s (ahead (w .marks) (part opaque quoted-text ⨾ byte QUOTE)) (i + 1)
-      opened = w .reads ∙ first-is rules s (w .marks) QUOTE (part opaque quoted-text ⨾ byte QUOTE) refl i at (eq-eqb (getD s i 0) 34 q) refl
+    pub quote-is : getD s i 0 ≡ 34 → AfterQuote s t (i + 1)
+    quote-is q = (
+      record {
+        marks = w .marks;
+        means = w .means;
+        reads = w .reads
+            ∙ first-is rules s (w .marks) QUOTE (part opaque quoted-text ⨾ byte QUOTE) refl i at (eq-eqb (getD s i 0) 34 q) refl;
+      },
+      omega arith,
+    )
 
-      pub opaque-cut-off : length s ≤ e → header rules s ≡ refused 1 e
-      opaque-cut-off h =
-          opened ∙ quoted-cut-off rules s (w .marks) opaque empty refl refl (i + 1) (λ n x a. refl) (omega (arith, d)) ∙ ap (refused 1) (sym d)
+module _ (s : List ℕ) (t : Bool) (i : ℕ) (w : AfterQuote s t i) (e : ℕ) (d : e ≡ quoted-end s i) where
+  abbrev before : List (Part Name)
+  before = w .0 .marks
 
-      pub opaque-bad : (getD s e 0 ≡ 34 → ⊥) → header rules s ≡ refused 1 e
-      opaque-bad h =
-          opened ∙ quoted-bad rules s (w .marks) opaque empty refl refl (i + 1) (λ n x a. refl) (λ z. h (ap (λ (n : ℕ). getD s n 0) d ∙ z)) ∙ ap (refused 1) (sym d)
+  pub opaque-cut-off : length s ≤ e → header rules s ≡ refused 1 e
+  opaque-cut-off h =
+      w .0 .reads ∙ quoted-cut-off rules s before opaque empty refl refl i (λ n x a. refl) (omega (arith, d)) ∙ ap (refused 1) (sym d)
 
-      module _ (in-text : e < length s) (closing : getD s e 0 ≡ 34) where
-        abbrev parts : List (Part Name)
-        parts = w .marks ++ record { label = opaque; start = i + 1; text = slice s (i + 1) e } ∷ []
+  pub opaque-bad : (getD s e 0 ≡ 34 → ⊥) → header rules s ≡ refused 1 e
+  opaque-bad h =
+      w .0 .reads ∙ quoted-bad rules s before opaque empty refl refl i (λ n x a. refl) (λ z. h (ap (λ (n : ℕ). getD s n 0) d ∙ z))
+      ∙ ap (refused 1) (sym d)
 
-        closed : header rules s ≡ from rules s (ahead parts empty) (e + 1)
-        closed =
-            opened
-            ∙ quoted-closed rules s (w .marks) opaque empty refl refl (i + 1) (λ n x a. refl) (omega (arith, d)) (ap (λ (n : ℕ). getD s n 0) (sym d) ∙ closing)
-            ∙ ap (λ (n : ℕ). from rules s (ahead (w .marks ++ record { label = opaque; start = i + 1; text = slice s (i + 1) n } ∷ []) empty) (n + 1)) (sym d)
+  module _ (in-text : e < length s) (closing : getD s e 0 ≡ 34) where
+    abbrev inside : ℕ → Part Name
+    inside n = record { label = opaque; start = i; text = slice s i n }
 
-        pub tag-goes-on : e + 1 < length s → header rules s ≡ refused 1 (e + 1)
-        tag-goes-on h = closed ∙ goes-too-far rules s parts (e + 1) h
+    closed : header rules s ≡ from rules s (ahead (before ++ inside e ∷ []) empty) (e + 1)
+    closed =
+        w .0 .reads
+        ∙ quoted-closed rules s before opaque empty refl refl i (λ n x a. refl) (omega (arith, d))
+        (ap (λ (n : ℕ). getD s n 0) (sym d) ∙ closing)
+        ∙ ap (λ (n : ℕ). from rules s (ahead (before ++ inside n ∷ []) empty) (n + 1)) (sym d)
 
-        pub tag-reads : length s ≤ e + 1 → header rules s ≡ value (record { weak = t; start = i + 1; len = e - (i + 1) })
-        tag-reads h =
-            closed ∙ ends-well rules s parts (e + 1) h ∙ ap value (w .means (record { label = opaque; start = i + 1; text = slice s (i + 1) e }))
-            ∙ ap (λ (n : ℕ). value (record { weak = t; start = i + 1; len = n })) (slice-length s (i + 1) e (omega (arith, d)) (omega arith))
+    pub tag-goes-on : e + 1 < length s → header rules s ≡ refused 1 (e + 1)
+    tag-goes-on h = closed ∙ goes-too-far rules s (before ++ inside e ∷ []) (e + 1) h
+
+    pub tag-reads : length s ≤ e + 1 → header rules s ≡ value (record { weak = t; start = i; length = e - i })
+    tag-reads h =
+        closed ∙ ends-well rules s (before ++ inside e ∷ []) (e + 1) h ∙ ap value (w .0 .means (inside e))
+        ∙ ap (λ (n : ℕ). value (record { weak = t; start = i; length = n })) (slice-length s i e (omega (arith, d)) (omega arith))

@@ -1,16 +1,15 @@
 -- The quoted bytes of a tag that was read stand within it, and are its opaque part.
-use Prim.Native.Nat.{ℕ, _+_, _≤_}
+use Prim.Native.Nat.{ℕ}
 use native.Mathlib.Omega.{arith}
-use mathlib.Core.Path.{_≡_, refl, sym, ap, subst, _∙_}
+use mathlib.Core.Path.{_≡_, subst}
 use mathlib.Core.List.{List, [], _∷_}
 use lib.Dec.{T}
-use lib.ListN.{length}
 use Rattle.grammar.specs.Grammar.{Part, lower}
 use Rattle.grammar.specs.Reading as G
 use Rattle.grammar.specs.helpers.Judge.{header}
 use Rattle.grammar.specs.helpers.Slices.{Slices}
 use Rattle.grammar.proofs.Deterministic.{deterministic?}
-use Rattle.grammar.proofs.Pieces.{slice-within, slice-is, value-slices}
+use Rattle.grammar.proofs.Pieces.{slice-within, value-slices}
 use Rattle.octets.specs.Bytes.{text?, escaped?}
 use Rattle.etag.specs.declared.Tag.{Tag}
 use Rattle.etag.specs.Grammar.{Name, entity-tag, value, rules}
@@ -22,8 +21,8 @@ one-way = tt
 
 within-parts : (s : List ℕ) (ps : List (Part Name)) → Slices 0 s ps → Within s (value ps)
 within-parts s [] w = omega arith
-within-parts s (a ∷ []) w = slice-within s a (w .0)
-within-parts s (a ∷ b ∷ ps) w = slice-within s b (w .1 .0)
+within-parts s (a ∷ []) w = omega (arith, slice-within s a (w .0))
+within-parts s (a ∷ b ∷ ps) w = omega (arith, slice-within s b (w .1 .0))
 
 pub within : (s : List ℕ) (v : Tag) → header rules s ≡ G.value v → Within s v
 within s v e =

@@ -1,11 +1,10 @@
 // Entity tags: RFC 2616 3.11 and, for matching, 13.3.3.
 ghost use mathlib.Core.Path.{_≡_};
-ghost use Rattle.grammar.specs.Comparing.{outcome};
 ghost use Rattle.grammar.specs.helpers.Judge.{header};
 ghost use Rattle.octets.specs.Comparing.{comparison};
 ghost use Rattle.etag.specs.Grammar.{rules};
-ghost use Rattle.etag.specs.Reading.{verdict, weakly, strongly, weak-matching, strong-matching};
-ghost use Rattle.etag.specs.helpers.Scan.{AfterMark, Within};
+ghost use Rattle.etag.specs.Reading.{verdict, weakly, strongly, matches, matching, weak-matching, strong-matching};
+ghost use Rattle.etag.specs.helpers.Scan.{AfterMark, AfterQuote, Within};
 use octets::Compared;
 use octets::Refusal;
 
@@ -16,7 +15,7 @@ const MARK_LEN: usize = 2;
 pub struct Tag {
     pub weak: bool,
     pub start: usize,
-    pub len: usize,
+    pub length: usize,
 }
 
 pub enum Reading {
@@ -29,14 +28,20 @@ pub fn read(s: &[u8]) -> Reading
     ensures { λ r. ⌜ verdict r ≡ header rules (now (s .entry)) ⌝ }
 {
     if s.len() > octets::VALUE_LIMIT {
-        return refused(13, octets::VALUE_LIMIT);
+        return Reading::Refused(Refusal {
+            number: octets::VALUE_TOO_LONG,
+            place: octets::VALUE_LIMIT,
+        });
     }
-    let agreed = octets::word_at(b"W/", s, 0);
+    let agreed = scans::word_at(b"W/", s, 0);
     if agreed == 0 {
         return read_opaque(s, false, 0);
     }
     if agreed < MARK_LEN {
-        return refused(1, agreed);
+        return Reading::Refused(Refusal {
+            number: octets::MALFORMED,
+            place: agreed,
+        });
     }
     read_opaque(s, true, MARK_LEN)
 }
@@ -45,42 +50,14 @@ pub fn read(s: &[u8]) -> Reading
 pub fn strong_match(a: &[u8], b: &[u8]) -> Compared
     ensures { λ r. ⌜ comparison r ≡ strong-matching (now (a .entry)) (now (b .entry)) ⌝ }
 {
-    match read(a) {
-        Reading::Refused(r) => Compared::FirstRefused(r),
-        Reading::Read(v) => match read(b) {
-            Reading::Refused(r) => Compared::SecondRefused(r),
-            Reading::Read(w) => answer(match_strongly(a, v, b, w)),
-        },
-    }
+    match_tags(a, b, true)
 }
 
 // Reads the first, then the second: the quoted bytes are the same as sent.
 pub fn weak_match(a: &[u8], b: &[u8]) -> Compared
     ensures { λ r. ⌜ comparison r ≡ weak-matching (now (a .entry)) (now (b .entry)) ⌝ }
 {
-    match read(a) {
-        Reading::Refused(r) => Compared::FirstRefused(r),
-        Reading::Read(v) => match read(b) {
-            Reading::Refused(r) => Compared::SecondRefused(r),
-            Reading::Read(w) => answer(match_weakly(a, v, b, w)),
-        },
-    }
-}
-
-fn refused(number: u8, place: usize) -> Reading
-    ensures { λ r. ⌜ r ≡ Reading.Refused (record { number = number; place = place }) ⌝ }
-{
-    Reading::Refused(Refusal { number, place })
-}
-
-fn answer(same: bool) -> Compared
-    ensures { λ r. ⌜ comparison r ≡ outcome same ⌝ }
-{
-    if same {
-        Compared::Same
-    } else {
-        Compared::Different
-    }
+    match_tags(a, b, false)
 }
 
 // Reads on from the place behind the mark, if there is one.
@@ -89,24 +66,79 @@ fn read_opaque(s: &[u8], weak: bool, at: usize) -> Reading
     ensures { λ r. ⌜ verdict r ≡ header rules (now (s .entry)) ⌝ }
 {
     if s.len() <= at {
-        return refused(1, at);
+        return Reading::Refused(Refusal {
+            number: octets::MALFORMED,
+            place: at,
+        });
     }
     if s[at] != b'"' {
-        return refused(1, at);
+        return Reading::Refused(Refusal {
+            number: octets::MALFORMED,
+            place: at,
+        });
     }
-    let start = at + 1;
-    let end = octets::quoted_end(s, start);
+    read_inside(s, weak, at + 1)
+}
+
+// Reads on from the place behind the opening quote.
+fn read_inside(s: &[u8], weak: bool, start: usize) -> Reading
+    requires { ⌜ AfterQuote (now s) weak start ⌝ }
+    ensures { λ r. ⌜ verdict r ≡ header rules (now (s .entry)) ⌝ }
+{
+    let end = scans::quoted_end(s, start);
     if s.len() <= end {
-        return refused(1, end);
+        return Reading::Refused(Refusal {
+            number: octets::MALFORMED,
+            place: end,
+        });
     }
     if s[end] != b'"' {
-        return refused(1, end);
+        return Reading::Refused(Refusal {
+            number: octets::MALFORMED,
+            place: end,
+        });
     }
     if end + 1 < s.len() {
-        return refused(1, end + 1);
+        return Reading::Refused(Refusal {
+            number: octets::MALFORMED,
+            place: end + 1,
+        });
     }
-    let len = end - start;
-    Reading::Read(Tag { weak, start, len })
+    Reading::Read(Tag {
+        weak,
+        start,
+        length: end - start,
+    })
+}
+
+// Reads the first, then the second, and says whether they match.
+fn match_tags(a: &[u8], b: &[u8], strong: bool) -> Compared
+    ensures { λ r. ⌜ comparison r ≡ matching strong (now (a .entry)) (now (b .entry)) ⌝ }
+{
+    match read(a) {
+        Reading::Refused(r) => Compared::FirstRefused(r),
+        Reading::Read(v) => match read(b) {
+            Reading::Refused(r) => Compared::SecondRefused(r),
+            Reading::Read(w) => {
+                if is_match(a, v, b, w, strong) {
+                    Compared::Same
+                } else {
+                    Compared::Different
+                }
+            }
+        },
+    }
+}
+
+fn is_match(a: &[u8], v: Tag, b: &[u8], w: Tag, strong: bool) -> bool
+    requires { ⌜ Within (now a) v ⌝ }
+    requires { ⌜ Within (now b) w ⌝ }
+    ensures { λ r. ⌜ r ≡ matches strong (now (a .entry)) (now (b .entry)) v w ⌝ }
+{
+    if strong {
+        return match_strongly(a, v, b, w);
+    }
+    match_weakly(a, v, b, w)
 }
 
 fn match_strongly(a: &[u8], v: Tag, b: &[u8], w: Tag) -> bool
@@ -128,9 +160,9 @@ fn match_weakly(a: &[u8], v: Tag, b: &[u8], w: Tag) -> bool
     requires { ⌜ Within (now b) w ⌝ }
     ensures { λ r. ⌜ r ≡ weakly (now (a .entry)) (now (b .entry)) v w ⌝ }
 {
-    let i = v.start;
-    let j = i + v.len;
-    let k = w.start;
-    let l = k + w.len;
-    octets::same(&a[i..j], &b[k..l])
+    let first = v.start;
+    let first_end = first + v.length;
+    let second = w.start;
+    let second_end = second + w.length;
+    octets::same(&a[first..first_end], &b[second..second_end])
 }

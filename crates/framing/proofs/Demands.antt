@@ -4,6 +4,7 @@ use mathlib.Core.List.{List, _∷_, _++_}
 use mathlib.Core.Logic.{_↔_}
 use Prim.Native.Nat.{ℕ, _≤_}
 use lib.ListN.{length, drop}
+use Rattle.grammar.specs.Refusals.{MALFORMED, BODY_TOO_LARGE}
 use Rattle.framing.specs.Grammar.{Body, Broken}
 use Rattle.framing.specs.Answer as Answer
 use Rattle.framing.specs.Demand.{Live, BeginsWhole, Unfinished, Malformed, Over, Decodes}
@@ -29,12 +30,12 @@ module _ (r : ℕ) (s : List ℕ) where
   more = demands .more r s
 
   -- "The place of 1 is the length of the longest beginning that some continuation, limits aside, makes well-formed"
-  pub malformed : (p : ℕ) → (decode r s ≡ Answer.refused 1 p) ↔ Malformed Body (Broken r) s p
+  pub malformed : (p : ℕ) → (decode r s ≡ Answer.refused MALFORMED p) ↔ Malformed Body (Broken r) s p
   malformed = demands .malformed r s
 
-  -- rows 5, 6 and 7: "In a chunked body the lowest place, and at one byte: 1, 5, 6, 7"; "A limit is broken by a byte that leaves a
-  -- continuation and is the place its row names"
-  pub limit : (n p : ℕ) → (n ≡ 1 → ⊥) → (decode r s ≡ Answer.refused n p) ↔ Over Body (Broken r) s n p
+  -- rows 5, 6 and 7: "In a chunked body the lowest place, and at one byte: 1, 5, 6, 7"; "A limit (row 5, 6 or 7) is broken by a
+  -- byte that leaves a continuation and is the place its row names"
+  pub limit : (n p : ℕ) → (n ≡ MALFORMED → ⊥) → (decode r s ≡ Answer.refused n p) ↔ Over Body (Broken r) s n p
   limit = demands .limit r s
 
   -- an answer that is not "more" is that of every longer input, written bytes included
@@ -42,10 +43,11 @@ module _ (r : ℕ) (s : List ℕ) where
   stands = demands .stands r s
 
   -- an answer that is not refusal 7 is that of every larger room, written bytes included
-  pub roomier : (q : ℕ) → r ≤ q → ((p : ℕ) → decode r s ≡ Answer.refused 7 p → ⊥) → (decode q s ≡ decode r s) × (decoded q s ≡ decoded r s)
+  pub roomier : (q : ℕ) → r ≤ q → ((p : ℕ) → decode r s ≡ Answer.refused BODY_TOO_LARGE p → ⊥)
+      → (decode q s ≡ decode r s) × (decoded q s ≡ decoded r s)
   roomier q = demands .roomier r q s
 
--- "Whole writes the body at the front of the output and keeps the rest"; "No refusal writes into a lent buffer, nor does `more`"
+-- "Whole writes the body at the front of the output and keeps the rest"; "No refusal writes into a lent buffer", nor does "more"
 pub written : (s old : List ℕ)
     → ((n k : ℕ) (d : List ℕ) → BeginsWhole Body (Broken (length old)) s n k d → decode-output s old ≡ d ++ drop (length d) old)
     × (((n k : ℕ) → decode (length old) s ≡ Answer.whole n k → ⊥) → decode-output s old ≡ old)

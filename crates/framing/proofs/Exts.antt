@@ -21,7 +21,7 @@ extRun = run extStep
 -- ## From the machine to the grammar: what each position still waits for
 
 pub data Tail : List ℕ → Type 0 where
-  plain : {r : List ℕ} → Extensions r → Tail r
+  no-value : {r : List ℕ} → Extensions r → Tail r
   value : {v r : List ℕ} → Value v → Extensions r → Tail (61 ∷ (v ++ r))
 
 pub data Rest : ExtPos → List ℕ → Type 0 where
@@ -29,15 +29,15 @@ pub data Rest : ExtPos → List ℕ → Type 0 where
   name0 : {n r : List ℕ} → Some token? n → Tail r → Rest ExtPos.Name0 (n ++ r)
   name : {n r : List ℕ} → Many token? n → Tail r → Rest ExtPos.Name (n ++ r)
   value0 : {v r : List ℕ} → Value v → Extensions r → Rest ExtPos.Value0 (v ++ r)
-  token : {n r : List ℕ} → Many token? n → Extensions r → Rest ExtPos.Token (n ++ r)
-  quoted : {i r : List ℕ} → Inside i → Extensions r → Rest ExtPos.Quoted (i ++ (34 ∷ r))
+  in-token : {n r : List ℕ} → Many token? n → Extensions r → Rest ExtPos.Token (n ++ r)
+  in-quoted : {i r : List ℕ} → Inside i → Extensions r → Rest ExtPos.Quoted (i ++ (34 ∷ r))
   pair : {b : ℕ} {i r : List ℕ} → escaped? b ≡ true → Inside i → Extensions r → Rest ExtPos.Pair (b ∷ (i ++ (34 ∷ r)))
 
 bad : {A : Type 0} {xs : List ℕ} → Rest ExtPos.Bad xs → A
 bad h = elim h [ ]
 
 from-name0 : {xs : List ℕ} → Rest ExtPos.Name0 xs → Extensions (59 ∷ xs)
-from-name0 (name0 {n = n} {r = r} t (plain e)) = G.more (G.bare t) e
+from-name0 (name0 {n = n} {r = r} t (no-value e)) = G.more (G.bare t) e
 from-name0 (name0 {n = n} t (value {v = v} {r = r} w e)) =
     subst Extensions (append-assoc (59 ∷ n) (61 ∷ v) r) (G.more (G.valued t w) e)
 
@@ -54,22 +54,23 @@ from-value0 : {xs : List ℕ} → Rest ExtPos.Value0 xs → Tail (61 ∷ xs)
 from-value0 (value0 v e) = value v e
 
 to-token : {b : ℕ} {xs : List ℕ} → token? b ≡ true → Rest ExtPos.Token xs → Rest ExtPos.Token (b ∷ xs)
-to-token h (token m e) = token (G.more h m) e
+to-token h (in-token m e) = in-token (G.more h m) e
 
 token-value0 : {b : ℕ} {xs : List ℕ} → token? b ≡ true → Rest ExtPos.Token xs → Rest ExtPos.Value0 (b ∷ xs)
-token-value0 h (token m e) = value0 (G.token (G.some h m)) e
+token-value0 h (in-token m e) = value0 (G.token-value (G.some h m)) e
 
 quoted-value0 : {xs : List ℕ} → Rest ExtPos.Quoted xs → Rest ExtPos.Value0 (34 ∷ xs)
-quoted-value0 (quoted {i = i} {r = r} w e) = subst (Rest ExtPos.Value0) (ap (λ (l : List ℕ). 34 ∷ l) (append-assoc i (34 ∷ []) r)) (value0 (G.quoted w) e)
+quoted-value0 (in-quoted {i = i} {r = r} w e) = subst (Rest ExtPos.Value0) (ap (λ (l : List ℕ). 34 ∷ l) (append-assoc i (34 ∷ []) r))
+    (value0 (G.quoted-value w) e)
 
 to-quoted : {b : ℕ} {xs : List ℕ} → text? b ≡ true → Rest ExtPos.Quoted xs → Rest ExtPos.Quoted (b ∷ xs)
-to-quoted h (quoted w e) = quoted (G.text h w) e
+to-quoted h (in-quoted w e) = in-quoted (G.text h w) e
 
 pair-quoted : {xs : List ℕ} → Rest ExtPos.Pair xs → Rest ExtPos.Quoted (92 ∷ xs)
-pair-quoted (pair h w e) = quoted (G.pair h w) e
+pair-quoted (pair h w e) = in-quoted (G.pair h w) e
 
 quoted-pair : {b : ℕ} {xs : List ℕ} → escaped? b ≡ true → Rest ExtPos.Quoted xs → Rest ExtPos.Pair (b ∷ xs)
-quoted-pair h (quoted w e) = pair h w e
+quoted-pair h (in-quoted w e) = pair h w e
 
 pub from-between : {xs : List ℕ} → Rest ExtPos.Between xs → Extensions xs
 from-between (between e) = e
@@ -81,23 +82,23 @@ back ExtPos.Between b xs = by-cond (λ (e : ExtPos). Rest e xs) (eqb b 59)
 back ExtPos.Name0 b xs = by-cond (λ (e : ExtPos). Rest e xs) (token? b) to-name0 (λ k h. bad h)
 back ExtPos.Name b xs = by-cond (λ (e : ExtPos). Rest e xs) (token? b) to-name (λ _.
     by-cond (λ (e : ExtPos). Rest e xs) (eqb b 61) (λ k h. rw (eqb-true b 61 k) (tail-name (from-value0 h))) (λ _.
-    by-cond (λ (e : ExtPos). Rest e xs) (eqb b 59) (λ k h. rw (eqb-true b 59 k) (tail-name (plain (from-name0 h)))) (λ k h. bad h)))
+    by-cond (λ (e : ExtPos). Rest e xs) (eqb b 59) (λ k h. rw (eqb-true b 59 k) (tail-name (no-value (from-name0 h)))) (λ k h. bad h)))
 back ExtPos.Value0 b xs = by-cond (λ (e : ExtPos). Rest e xs) (token? b) token-value0 (λ _.
     by-cond (λ (e : ExtPos). Rest e xs) (eqb b 34) (λ k h. rw (eqb-true b 34 k) (quoted-value0 h)) (λ k h. bad h))
 back ExtPos.Token b xs = by-cond (λ (e : ExtPos). Rest e xs) (token? b) to-token (λ _.
-    by-cond (λ (e : ExtPos). Rest e xs) (eqb b 59) (λ k h. rw (eqb-true b 59 k) (token G.none (from-name0 h))) (λ k h. bad h))
+    by-cond (λ (e : ExtPos). Rest e xs) (eqb b 59) (λ k h. rw (eqb-true b 59 k) (in-token G.none (from-name0 h))) (λ k h. bad h))
 back ExtPos.Quoted b xs = by-cond (λ (e : ExtPos). Rest e xs) (text? b) to-quoted (λ _.
     by-cond (λ (e : ExtPos). Rest e xs) (eqb b 92) (λ k h. rw (eqb-true b 92 k) (pair-quoted h)) (λ _.
-    by-cond (λ (e : ExtPos). Rest e xs) (eqb b 34) (λ k h. rw (eqb-true b 34 k) (quoted G.end (from-between h))) (λ k h. bad h)))
+    by-cond (λ (e : ExtPos). Rest e xs) (eqb b 34) (λ k h. rw (eqb-true b 34 k) (in-quoted G.end (from-between h))) (λ k h. bad h)))
 back ExtPos.Pair b xs = by-cond (λ (e : ExtPos). Rest e xs) (escaped? b) quoted-pair (λ k h. bad h)
 back ExtPos.Bad b xs = λ h. bad h
 
 pub rest-nil : (e : ExtPos) → extEnds e ≡ true → Rest e []
 rest-nil ExtPos.Between h = between G.none
 rest-nil ExtPos.Name0 h = false-true h
-rest-nil ExtPos.Name h = name G.none (plain G.none)
+rest-nil ExtPos.Name h = name G.none (no-value G.none)
 rest-nil ExtPos.Value0 h = false-true h
-rest-nil ExtPos.Token h = token G.none G.none
+rest-nil ExtPos.Token h = in-token G.none G.none
 rest-nil ExtPos.Quoted h = false-true h
 rest-nil ExtPos.Pair h = false-true h
 rest-nil ExtPos.Bad h = false-true h
@@ -156,11 +157,13 @@ run-inside : {i : List ℕ} → Inside i → extRun ExtPos.Quoted (i ++ (34 ∷ 
 run-inside G.end = close-quote
 run-inside (G.text {b = b} {xs = xs} h w) = run-step extStep ExtPos.Quoted b (xs ++ (34 ∷ [])) (step-text b h) ∙ run-inside w
 run-inside (G.pair {b = b} {xs = xs} h w) =
-    run-step extStep ExtPos.Quoted 92 (b ∷ (xs ++ (34 ∷ []))) open-pair ∙ run-step extStep ExtPos.Pair b (xs ++ (34 ∷ [])) (step-escaped b h) ∙ run-inside w
+    run-step extStep ExtPos.Quoted 92 (b ∷ (xs ++ (34 ∷ []))) open-pair
+    ∙ run-step extStep ExtPos.Pair b (xs ++ (34 ∷ [])) (step-escaped b h)
+    ∙ run-inside w
 
 run-value : {v : List ℕ} → Value v → extEnds (extRun ExtPos.Value0 v) ≡ true
-run-value (G.token (G.some h m)) = rw h (rw (run-token m) refl)
-run-value (G.quoted {xs = xs} w) = ap extEnds (run-step extStep ExtPos.Value0 34 (xs ++ (34 ∷ [])) open-quote ∙ run-inside w)
+run-value (G.token-value (G.some h m)) = rw h (rw (run-token m) refl)
+run-value (G.quoted-value {xs = xs} w) = ap extEnds (run-step extStep ExtPos.Value0 34 (xs ++ (34 ∷ [])) open-quote ∙ run-inside w)
 
 run-extension : {x : List ℕ} → Extension x → (a : ExtPos) → extEnds a ≡ true → extEnds (extRun a x) ≡ true
 run-extension (G.bare {n = n} t) a h = rw (ends-semicolon a h) (rw (run-name0 t) refl)

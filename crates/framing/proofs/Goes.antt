@@ -17,7 +17,8 @@ use Rattle.framing.specs.declared.State.the-variants.{Line, LineFeed, Da
 use Rattle.framing.specs.Grammar as G
 use Rattle.octets.specs.Bytes.{octet?, hex?}
 use Rattle.framing.specs.Grammar.{Many, Trailer, Chunk, Chunks, Body}
-use Rattle.framing.specs.helpers.Machine.{lineStep, lineEnds, lineLive, trailStep, trailEnds, trailLive, leaveLine, enterChunk, step, emit, live, start}
+use Rattle.framing.specs.helpers.Machine.{lineStep, lineEnds, lineLive, trailStep, trailEnds, trailLive}
+use Rattle.framing.specs.helpers.Machine.{leaveLine, enterChunk, step, emit, live, start}
 use Rattle.framing.specs.helpers.Scan.{run, out}
 use Rattle.framing.proofs.Scanning.{run-append, out-append, run-live}
 use Rattle.framing.proofs.Cases.{false-true, to-cond}
@@ -40,7 +41,8 @@ then {s} {s′} {s″} {xs} {ys} {d} {e} g h = record {
       ∙ ap₂ (λ (a b : List ℕ). a ++ b) (g .gives) (h .gives);
 }
 
-pub byte : (s : State) {s′ s″ : State} (b : ℕ) {xs a d : List ℕ} → step s b ≡ s′ → emit s b ≡ a → Goes s′ xs d s″ → Goes s (b ∷ xs) (a ++ d) s″
+pub byte : (s : State) {s′ s″ : State} (b : ℕ) {xs a d : List ℕ} → step s b ≡ s′ → emit s b ≡ a → Goes s′ xs d s″
+    → Goes s (b ∷ xs) (a ++ d) s″
 byte s {s′} {s″} b {xs} {a} {d} e f g = record {
   ends = ap (λ (z : State). run step z xs) e ∙ g .ends;
   gives = ap (λ (z : State). emit s b ++ out step emit z xs) e ∙ ap₂ (λ (x y : List ℕ). x ++ y) f (g .gives);
@@ -56,7 +58,8 @@ emit-line : (p : LinePos) (b k t : ℕ) → emit (Line p k t) b ≡ []
 unfolding emit
 emit-line p b k t = refl
 
-pub goes-line : (l : List ℕ) (p : LinePos) (k t : ℕ) → lineLive (lineRun p l) ≡ true → Goes (Line p k t) l [] (Line (lineRun p l) (k + length l) t)
+pub goes-line : (l : List ℕ) (p : LinePos) (k t : ℕ) → lineLive (lineRun p l) ≡ true
+    → Goes (Line p k t) l [] (Line (lineRun p l) (k + length l) t)
 goes-line [] p k t h = record { ends = ap (λ (n : ℕ). Line p n t) (omega arith); gives = refl }
 goes-line (b ∷ l) p k t h =
     byte (Line p k t) b (step-line p b k t (run-live lineStep lineLive line-dead (lineStep p b) l h)) (emit-line p b k t)
@@ -145,20 +148,23 @@ goes-chunk-data (suc m) t k e h = rw (enter-data m t) (goes-data m (t + suc m) k
 pub goes-chunk : {e x : List ℕ} (t : ℕ) → Chunk e x → Goes (Line First 0 t) e x (Line First 0 (t + length x))
 goes-chunk t (G.chunk {l = l} {x = x} h k m) =
     subst (λ (z : List ℕ). Goes (Line First 0 t) z x (Line First 0 (t + length x))) (append-assoc l (13 ∷ 10 ∷ []) (x ++ (13 ∷ 10 ∷ [])))
-    (subst (λ (z : List ℕ). Goes (Line First 0 t) ((l ++ (13 ∷ 10 ∷ [])) ++ (x ++ (13 ∷ 10 ∷ []))) z (Line First 0 (t + length x))) (append-nil x)
+    (subst (λ (z : List ℕ). Goes (Line First 0 t) ((l ++ (13 ∷ 10 ∷ [])) ++ (x ++ (13 ∷ 10 ∷ []))) z (Line First 0 (t + length x)))
+    (append-nil x)
     (then (goes-whole-line t h) (then (goes-chunk-data (length x) t m refl k) (goes-crlf (t + length x)))))
 
 pub goes-chunks : {c d : List ℕ} → Chunks c d → Goes start c d (Line First 0 (length d))
 goes-chunks G.none = stay start
 goes-chunks (G.more {c = c} {d = d} {e = e} {x = x} cs h) =
-    subst (λ (n : ℕ). Goes start (c ++ e) (d ++ x) (Line First 0 n)) (sym (length-append d x)) (then (goes-chunks cs) (goes-chunk (length d) h))
+    subst (λ (n : ℕ). Goes start (c ++ e) (d ++ x) (Line First 0 n)) (sym (length-append d x))
+    (then (goes-chunks cs) (goes-chunk (length d) h))
 
 -- ## In the trailer
 step-trail : (p : TrailPos) (b k t : ℕ) → trailLive (trailStep p b) ≡ true → step (Trail p k t) b ≡ Trail (trailStep p b) (suc k) t
 unfolding step
 step-trail p b k t h = go (trailEnds p) (eqb b 13) refl refl
   where
-    go : (x y : Bool) → trailEnds p ≡ x → eqb b 13 ≡ y → cond (x && y) (EndLf t) (Trail (trailStep p b) (suc k) t) ≡ Trail (trailStep p b) (suc k) t
+    go : (x y : Bool) → trailEnds p ≡ x → eqb b 13 ≡ y
+        → cond (x && y) (EndLf t) (Trail (trailStep p b) (suc k) t) ≡ Trail (trailStep p b) (suc k) t
     go true true e f = false-true (sym (trail-no-cr p e) ∙ rw (eqb-true b 13 f) at h)
     go true false e f = refl
     go false y e f = refl
@@ -167,7 +173,8 @@ emit-trail : (p : TrailPos) (b k t : ℕ) → emit (Trail p k t) b ≡ []
 unfolding emit
 emit-trail p b k t = refl
 
-pub goes-trail : (l : List ℕ) (p : TrailPos) (k t : ℕ) → trailLive (trailRun p l) ≡ true → Goes (Trail p k t) l [] (Trail (trailRun p l) (k + length l) t)
+pub goes-trail : (l : List ℕ) (p : TrailPos) (k t : ℕ) → trailLive (trailRun p l) ≡ true
+    → Goes (Trail p k t) l [] (Trail (trailRun p l) (k + length l) t)
 goes-trail [] p k t h = record { ends = ap (λ (n : ℕ). Trail p n t) (omega arith); gives = refl }
 goes-trail (b ∷ l) p k t h =
     byte (Trail p k t) b (step-trail p b k t (run-live trailStep trailLive trail-dead (trailStep p b) l h)) (emit-trail p b k t)

@@ -18,13 +18,16 @@ use Rattle.framing.specs.declared.State.{State}
 use Rattle.framing.specs.declared.State.the-variants.{Line, LineFeed, Data, DataCr, DataLf, Trail, EndLf, Done, Dead}
 use Rattle.framing.specs.Grammar as G
 use Rattle.framing.specs.Grammar.{Many, valueFrom, Body, Broken, LINE_LIMIT, TRAILER_LIMIT}
-use Rattle.framing.specs.helpers.Machine.{lineStep, lineEnds, lineLive, trailStep, trailEnds, trailLive, leaveLine, enterChunk, step, emit, live, done, pastRoom, over, start}
+use Rattle.framing.specs.helpers.Machine.{lineStep, lineEnds, lineLive, trailStep, trailEnds, trailLive, leaveLine}
+use Rattle.framing.specs.helpers.Machine.{enterChunk, step, emit, live, done, pastRoom, over, start}
 use Rattle.framing.specs.helpers.Scan.{Verdict, judgeBy, run, out, Quiet}
 use Rattle.framing.proofs.Scanning.{run-append, run-live}
 use Rattle.framing.proofs.Machines.{Laws, judged-none}
 use Rattle.framing.proofs.Cases.{by-cond, to-cond}
-use Rattle.framing.proofs.Lines.{lineRun, line-sound, line-complete, line-dead, line-finish, line-ends-live, run-digits, run-size, digits-complete}
-use Rattle.framing.proofs.Trails.{trailRun, trail-sound, trail-complete, trail-dead, trail-finish, trail-ends-start, trail-live-start}
+use Rattle.framing.proofs.Lines.{lineRun, line-sound, line-complete, line-dead}
+use Rattle.framing.proofs.Lines.{line-finish, line-ends-live, run-digits, run-size, digits-complete}
+use Rattle.framing.proofs.Trails.{trailRun, trail-sound, trail-complete}
+use Rattle.framing.proofs.Trails.{trail-dead, trail-finish, trail-ends-start, trail-live-start}
 use Rattle.framing.proofs.Goes.{then, goes-chunks, goes-line, goes-last-line, goes-trail, goes-body, Finish, finish, dead}
 use Rattle.framing.proofs.Past.{InLine, InTrail, Ended, Past, past}
 use Rattle.framing.proofs.Rooms.{sizeOf, InRoom, run-in}
@@ -202,7 +205,8 @@ module _ (room : ℕ) where
       subst (Broken room 6) (sym (h .split ∙ ap (λ (z : List ℕ). h .chunks ++ (h .line ++ (13 ∷ 10 ∷ z))) (append-nil (h .part))))
       (G.longTrailer (G.inTrailer (f .0) (h .are) (h .is)
       (trail-complete (h .part ++ f .0)
-      (ap trailEnds (run-append trailStep Start (h .part) (f .0) ∙ ap (λ (z : TrailPos). trailRun z (f .0)) (h .at) ∙ f .1) ∙ trail-ends-start)))
+      (ap trailEnds (run-append trailStep Start (h .part) (f .0) ∙ ap (λ (z : TrailPos). trailRun z (f .0)) (h .at) ∙ f .1)
+      ∙ trail-ends-start)))
       (sym (h .count) ∙ e))
 
   -- a digit, from the state before it
@@ -258,7 +262,8 @@ module _ (room : ℕ) where
 
   pub quiet-in : (p : List ℕ) → Quiet step judge-in start p (length p) → InRoom room (run step start p)
   quiet-in p k = run-in room p start start-in
-      (λ i l. judged-none (live (run step start (take i p))) (done (run step start (take i p))) (over room (run step start (take i p))) (k i l) .2)
+      (λ i l. judged-none (live (run step start (take i p))) (done (run step start (take i p))) (over room (run step start (take i p)))
+      (k i l) .2)
 
   line-room : (q : LinePos) (k t : ℕ) → InRoom room (Line q k t) → t + sizeOf q ≤ room
   unfolding InRoom

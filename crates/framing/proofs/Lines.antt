@@ -16,7 +16,8 @@ use Rattle.framing.specs.helpers.Machine.{extStep, extEnds, lineStep, li
 use Rattle.framing.specs.helpers.Scan.{run}
 use Rattle.framing.proofs.Scanning.{run-append}
 use Rattle.framing.proofs.Cases.{false-true, by-cond}
-use Rattle.framing.proofs.Exts.{extRun, Rest, back, rest-nil, from-between, ext-sound, ext-dead, ext-no-cr, ext-finish, ext-ends-live}
+use Rattle.framing.proofs.Exts.{extRun, Rest, back, rest-nil, from-between}
+use Rattle.framing.proofs.Exts.{ext-sound, ext-dead, ext-no-cr, ext-finish, ext-ends-live}
 
 abbrev pub lineRun : LinePos → List ℕ → LinePos
 lineRun = run lineStep

@@ -13,9 +13,11 @@ use lib.Seq.{take-suc, take-take, take-length, length-take-le, take-append-le}
 use Rattle.framing.specs.Demand as Demand
 use Rattle.framing.specs.Answer.{Answer, whole, more, refused}
 use Rattle.framing.specs.Demand.{Unbroken, Unended, BeginsWhole, Unfinished, Reaches, Malformed, Over, Decodes}
-use Rattle.framing.specs.helpers.Scan.{Verdict, ended, refusal, verdictOf, judgeBy, Found, going, stop, run, out, Quiet, scan, answer, written}
+use Rattle.framing.specs.helpers.Scan.{Verdict, ended, refusal, verdictOf, judgeBy, Found, going}
+use Rattle.framing.specs.helpers.Scan.{stop, run, out, Quiet, scan, answer, written}
 use Rattle.framing.proofs.Cases.{false-true}
-use Rattle.framing.proofs.Scanning.{run-append, run-live, Stops, quiet-on, going-quiet, stop-stops, quiet-going, stops-stop, stands, same-scan}
+use Rattle.framing.proofs.Scanning.{run-append, run-live, Stops, quiet-on, going-quiet}
+use Rattle.framing.proofs.Scanning.{stop-stops, quiet-going, stops-stop, stands, same-scan}
 
 none-some : {A B : Type 0} {v : B} → none ≡ some v → A
 none-some e = let z : _≡_ {A = ℕ} 0 1 = cc in absurd (omega arith)
@@ -88,7 +90,8 @@ module _ (Body : List ℕ → List ℕ → Type 0) (Broken : ℕ → List ℕ �
     -- every live state has a completion
     pub finish : (s : S) → live s ≡ true → (u : List ℕ) × (t : ℕ) × (done (run step s u) ≡ some t)
     -- it ends at the bodies of the grammar, and gives their data
-    pub body-to : (p : List ℕ) (t : ℕ) → done (run step start p) ≡ some t → Body p (out step emit start p) × (t ≡ length (out step emit start p))
+    pub body-to : (p : List ℕ) (t : ℕ) → done (run step start p) ≡ some t
+        → Body p (out step emit start p) × (t ≡ length (out step emit start p))
     pub body-from : (p d : List ℕ) → Body p d → (done (run step start p) ≡ some (length d)) × (out step emit start p ≡ d)
     -- the first limit that it finds is broken, and where one is broken it finds that or a lower one
     pub over-to : (p : List ℕ) (b n : ℕ) → Quiet step judge start p (length p) → live (run step start (p ++ (b ∷ []))) ≡ true
@@ -130,8 +133,10 @@ module _ (Body : List ℕ → List ℕ → Type 0) (Broken : ℕ → List ℕ �
     pub prefix-free : (p : List ℕ) (b : ℕ) (q d e : List ℕ) → Body p d → Body (p ++ (b ∷ q)) e → ⊥
     prefix-free p b q d e x y =
         let h : live (reached (p ++ (b ∷ []))) ≡ true
-        = run-alive (p ++ (b ∷ [])) q (subst (λ (z : List ℕ). live (reached z) ≡ true) (sym (append-assoc p (b ∷ []) q)) (body-alive (p ++ (b ∷ q)) e y)) in
-        false-true (sym (laws .last (reached p) (length d) b (laws .body-from p d x .0)) ∙ ap live (sym (run-append step start p (b ∷ []))) ∙ h)
+        = run-alive (p ++ (b ∷ [])) q (subst (λ (z : List ℕ). live (reached z) ≡ true) (sym (append-assoc p (b ∷ []) q))
+        (body-alive (p ++ (b ∷ q)) e y)) in
+        false-true
+        (sym (laws .last (reached p) (length d) b (laws .body-from p d x .0)) ∙ ap live (sym (run-append step start p (b ∷ []))) ∙ h)
 
     pub one-reading : (p d e : List ℕ) → Body p d → Body p e → d ≡ e
     one-reading p d e x y = sym (laws .body-from p d x .1) ∙ laws .body-from p e y .1
@@ -139,7 +144,8 @@ module _ (Body : List ℕ → List ℕ → Type 0) (Broken : ℕ → List ℕ �
     -- ## The verdict that each kind of beginning gets
     body-judged : (p d : List ℕ) → Body p d → judge (reached p) ≡ some (ended (length d))
     body-judged p d b =
-        judged (live (reached p)) true (done (reached p)) (some (length d)) (over (reached p)) (over (reached p)) (body-alive p d b) (laws .body-from p d b .0) refl
+        judged (live (reached p)) true (done (reached p)) (some (length d)) (over (reached p)) (over (reached p)) (body-alive p d b)
+        (laws .body-from p d b .0) refl
 
     dead-judged : (p : List ℕ) → (Live p → ⊥) → judge (reached p) ≡ some (refusal 1)
     dead-judged p n = go (live (reached p)) refl
@@ -148,9 +154,11 @@ module _ (Body : List ℕ → List ℕ → Type 0) (Broken : ℕ → List ℕ �
         go true e = absurd (n (live-to p e))
         go false e = judged (live (reached p)) false (done (reached p)) (done (reached p)) (over (reached p)) (over (reached p)) e refl refl
 
-    broken-judged : (p : List ℕ) (n : ℕ) → Broken n p → (m : ℕ) × (judge (reached p) ≡ some (refusal m)) × (over (reached p) ≡ some m) × (m ≤ n)
+    broken-judged : (p : List ℕ) (n : ℕ) → Broken n p
+        → (m : ℕ) × (judge (reached p) ≡ some (refusal m)) × (over (reached p) ≡ some m) × (m ≤ n)
     broken-judged p n b =
-        let w : (live (reached p) ≡ true) × (done (reached p) ≡ none) × ((m : ℕ) × (over (reached p) ≡ some m) × (m ≤ n)) = laws .over-from p n b in (
+        let w : (live (reached p) ≡ true) × (done (reached p) ≡ none) × ((m : ℕ) × (over (reached p) ≡ some m) × (m ≤ n))
+        = laws .over-from p n b in (
           w .2 .0,
           judged (live (reached p)) true (done (reached p)) none (over (reached p)) (some (w .2 .0)) (w .0) (w .1) (w .2 .1),
           w .2 .1,
@@ -259,7 +267,8 @@ module _ (Body : List ℕ → List ℕ → Type 0) (Broken : ℕ → List ℕ �
       unfolding answer
       more-from w =
           ap answer (quiet-going step judge start s (laws .opens)
-          (still (length s) (omega arith) (ap (λ (z : List ℕ). live (reached z)) (take-length s) ∙ live-from s (w .live)) (w .unbroken) (w .unended)))
+          (still (length s) (omega arith) (ap (λ (z : List ℕ). live (reached z)) (take-length s) ∙ live-from s (w .live)) (w .unbroken)
+          (w .unended)))
 
       refusal-of : (n j : ℕ) → Stops step judge start s j (refusal n)
           → ((live (front (suc j)) ≡ false) × (n ≡ 1)) ⊎ ((live (front (suc j)) ≡ true) × (over (front (suc j)) ≡ some n))
@@ -272,13 +281,15 @@ module _ (Body : List ℕ → List ℕ → Type 0) (Broken : ℕ → List ℕ �
             live = still-live j (t .quiet);
             dead = λ l. ⊎-elim
                 (λ (w : (live (front (suc j)) ≡ false) × (1 ≡ 1)). false-true (sym (w .0) ∙ live-from (take (suc j) s) l))
-                (λ (w : (live (front (suc j)) ≡ true) × (over (front (suc j)) ≡ some 1)). over-at j 1 (t .inside) (t .quiet) (w .0) (w .1) .1 refl)
+                (λ (w : (live (front (suc j)) ≡ true) × (over (front (suc j)) ≡ some 1)). over-at j 1 (t .inside) (t .quiet) (w .0)
+                (w .1) .1 refl)
                 (refusal-of 1 j t);
           }
 
       malformed-from : (j : ℕ) → Malformed Body Broken s j → decode s ≡ refused 1 j
       unfolding answer
-      malformed-from j m = ap answer (stop-at j (refusal 1) (m .reaches) (live-from (take j s) (m .live)) (dead-judged (take (suc j) s) (m .dead)))
+      malformed-from j m = ap answer (stop-at j (refusal 1) (m .reaches) (live-from (take j s) (m .live))
+          (dead-judged (take (suc j) s) (m .dead)))
 
       same-some : (n m : ℕ) → some n ≡ some m → n ≡ m
       same-some n m e = cc

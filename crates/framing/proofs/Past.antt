@@ -54,7 +54,7 @@ pub record InData (v : ℕ) (z : List ℕ) (t : ℕ) (pre out : List ℕ) : Type
   pub some : 0 < v
   pub bytes : Many octet? part
   pub split : pre ≡ chunks ++ (line ++ (13 ∷ 10 ∷ (part ++ z)))
-  pub joined : out ≡ done ++ part
+  pub out-is : out ≡ done ++ part
   pub total : t ≡ length done + v
 
 pub record DataLeft (m : ℕ) (t : ℕ) (pre out : List ℕ) : Type 0 where
@@ -155,7 +155,7 @@ module _ (pre d : List ℕ) where
       some = omega arith;
       bytes = G.none;
       split = ap (λ (z : List ℕ). z ++ (10 ∷ [])) (h .split) ∙ simp append-assoc;
-      joined = sym (append-nil d);
+      out-is = sym (append-nil d);
       total = omega (arith, h .total);
     };
     left = omega arith;
@@ -172,7 +172,7 @@ module _ (pre d : List ℕ) where
     some = h .some;
     bytes = many-on (h .bytes) y;
     split = ap (λ (z : List ℕ). z ++ (b ∷ [])) (h .split) ∙ simp (append-assoc, append-nil);
-    joined = ap (λ (z : List ℕ). z ++ (b ∷ [])) (h .joined) ∙ append-assoc (h .done) (h .part) (b ∷ []);
+    out-is = ap (λ (z : List ℕ). z ++ (b ∷ [])) (h .out-is) ∙ append-assoc (h .done) (h .part) (b ∷ []);
     total = h .total;
   }
 
@@ -189,7 +189,7 @@ module _ (pre d : List ℕ) where
       some = h .some;
       bytes = h .bytes;
       split = ap (λ (z : List ℕ). z ++ (13 ∷ [])) (h .split) ∙ simp (append-assoc, append-nil);
-      joined = h .joined;
+      out-is = h .out-is;
       total = h .total;
     };
     left = e .left;
@@ -202,11 +202,11 @@ module _ (pre d : List ℕ) where
       record {
         chunks = h .chunks ++ (h .line ++ (13 ∷ 10 ∷ (h .part ++ (13 ∷ 10 ∷ []))));
         part = [];
-        are = subst (Chunks (h .chunks ++ (h .line ++ (13 ∷ 10 ∷ (h .part ++ (13 ∷ 10 ∷ [])))))) (sym (h .joined)) (G.more (h .are) whole);
+        are = subst (Chunks (h .chunks ++ (h .line ++ (13 ∷ 10 ∷ (h .part ++ (13 ∷ 10 ∷ [])))))) (sym (h .out-is)) (G.more (h .are) whole);
         split = ap (λ (z : List ℕ). z ++ (10 ∷ [])) (h .split) ∙ simp (append-assoc, append-nil);
         at = refl;
         count = refl;
-        total = omega (arith, h .total, e .left, length-append (h .done) (h .part), ap length (h .joined));
+        total = omega (arith, h .total, e .left, length-append (h .done) (h .part), ap length (h .out-is));
       }
 
   trail-on : (p : TrailPos) (k t b : ℕ) → InTrail p k [] t pre d → InTrail (trailStep p b) (suc k) [] t (pre ++ (b ∷ [])) d
@@ -266,7 +266,8 @@ on (DataLf t) b pre d h = rw append-nil (to-cond (λ (s : State). Past s (pre ++
     (λ e. rw (eqb-true b 10 e) (lf-on pre d t h)) (λ _. tt))
 on (Trail p k t) b pre d h = rw append-nil (go (trailEnds p) (eqb b 13) refl refl)
   where
-    go : (x y : Bool) → trailEnds p ≡ x → eqb b 13 ≡ y → Past (cond (x && y) (EndLf t) (Trail (trailStep p b) (suc k) t)) (pre ++ (b ∷ [])) d
+    go : (x y : Bool) → trailEnds p ≡ x → eqb b 13 ≡ y
+        → Past (cond (x && y) (EndLf t) (Trail (trailStep p b) (suc k) t)) (pre ++ (b ∷ [])) d
     go true true e f = (k, rw (eqb-true b 13 f) (close-on pre d p k t e h))
     go true false e f = trail-on pre d p k t b h
     go false y e f = trail-on pre d p k t b h
@@ -279,7 +280,8 @@ past-from : (xs : List ℕ) (s : State) (pre d : List ℕ) → Past s pre d → 
 past-from [] s pre d h = rw append-nil (rw append-nil h)
 past-from (b ∷ xs) s pre d h =
     subst (λ (z : List ℕ). Past (run step (step s b) xs) z (d ++ (emit s b ++ out step emit (step s b) xs))) (append-assoc pre (b ∷ []) xs)
-    (subst (λ (z : List ℕ). Past (run step (step s b) xs) ((pre ++ (b ∷ [])) ++ xs) z) (append-assoc d (emit s b) (out step emit (step s b) xs))
+    (subst (λ (z : List ℕ). Past (run step (step s b) xs) ((pre ++ (b ∷ [])) ++ xs) z)
+    (append-assoc d (emit s b) (out step emit (step s b) xs))
     (past-from xs (step s b) (pre ++ (b ∷ [])) (d ++ emit s b) (on s b pre d h)))
 
 -- what stands behind the state that the machine has reached

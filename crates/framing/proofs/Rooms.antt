@@ -16,7 +16,8 @@ use Rattle.framing.specs.declared.TrailPos.{TrailPos}
 use Rattle.framing.specs.declared.State.{State}
 use Rattle.framing.specs.declared.State.the-variants.{Line, LineFeed, Data, DataCr, DataLf, Trail, EndLf, Done, Dead}
 use Rattle.framing.specs.Grammar.{LINE_LIMIT, TRAILER_LIMIT}
-use Rattle.framing.specs.helpers.Machine.{lineStep, lineEnds, extEnds, trailStep, trailEnds, leaveLine, enterChunk, step, pastRoom, over}
+use Rattle.framing.specs.helpers.Machine.{lineStep, lineEnds, extEnds, trailStep, trailEnds}
+use Rattle.framing.specs.helpers.Machine.{leaveLine, enterChunk, step, pastRoom, over}
 use Rattle.framing.specs.helpers.Scan.{run}
 use Rattle.framing.proofs.Cases.{by-cond, to-cond}
 
@@ -79,7 +80,8 @@ module _ (room : ℕ) where
       (λ _ z. not-past (v * 16 + hex-value b) t z) (λ _ _. h)
   size-in (Ext v x) b t h = λ _. h
 
-  line-in : (q : LinePos) (k t : ℕ) → k ≤ LINE_LIMIT → over room (Line q (suc k) t) ≡ none → (suc k ≤ LINE_LIMIT) × (pastRoom room q t ≡ none)
+  line-in : (q : LinePos) (k t : ℕ) → k ≤ LINE_LIMIT → over room (Line q (suc k) t) ≡ none
+      → (suc k ≤ LINE_LIMIT) × (pastRoom room q t ≡ none)
   unfolding over
   line-in q k t h e = by-cond (λ (o : Option ℕ). o ≡ none) (eqb (suc k) (suc LINE_LIMIT)) (λ _ z. no-limit (sym z))
       (λ n z. (short (eqb-false (suc k) (suc LINE_LIMIT) n), z)) e

@@ -45,7 +45,8 @@ module _ {S W : Type 0} (step : S → ℕ → S) (judge : S → Option W) where
   quiet-nil s n h zero l = h
   quiet-nil s n h (suc i) l = h
 
-  quiet-cons : (s : S) (b : ℕ) (xs : List ℕ) (n : ℕ) → judge s ≡ none → Quiet step judge (step s b) xs n → Quiet step judge s (b ∷ xs) (suc n)
+  quiet-cons : (s : S) (b : ℕ) (xs : List ℕ) (n : ℕ) → judge s ≡ none → Quiet step judge (step s b) xs n
+      → Quiet step judge s (b ∷ xs) (suc n)
   quiet-cons s b xs n h k zero l = h
   quiet-cons s b xs n h k (suc i) l = k i (omega arith)
 
@@ -53,7 +54,8 @@ module _ {S W : Type 0} (step : S → ℕ → S) (judge : S → Option W) where
   quiet-zero s xs h zero l = h
   quiet-zero s xs h (suc i) l = absurd (omega arith)
 
-  pub quiet-on : (s : S) (xs : List ℕ) (n : ℕ) → Quiet step judge s xs n → judge (run step s (take (suc n) xs)) ≡ none → Quiet step judge s xs (suc n)
+  pub quiet-on : (s : S) (xs : List ℕ) (n : ℕ) → Quiet step judge s xs n → judge (run step s (take (suc n) xs)) ≡ none
+      → Quiet step judge s xs (suc n)
   quiet-on s xs n k h i l = go (ℕ-discrete i (suc n))
     where
       go : Dec (i ≡ suc n) → judge (run step s (take i xs)) ≡ none
@@ -135,7 +137,8 @@ module _ {S W : Type 0} (step : S → ℕ → S) (judge : S → Option W) where
   stands-here i none r r′ j v h e = h e
   stands-here i (some w) r r′ j v h e = e
 
-  pub stands : (s : S) (i : ℕ) (xs ys : List ℕ) (j : ℕ) (v : W) → scan step judge s i xs ≡ stop j v → scan step judge s i (xs ++ ys) ≡ stop j v
+  pub stands : (s : S) (i : ℕ) (xs ys : List ℕ) (j : ℕ) (v : W) → scan step judge s i xs ≡ stop j v
+      → scan step judge s i (xs ++ ys) ≡ stop j v
   stands s i [] ys j v e = let z : _≡_ {A = ℕ} 0 1 = cc in absurd (omega arith)
   stands s i (b ∷ xs) ys j v e =
       stands-here i (judge (step s b)) (scan step judge (step s b) (suc i) xs) (scan step judge (step s b) (suc i) (xs ++ ys)) j v
@@ -149,7 +152,8 @@ module _ {S W : Type 0} (step : S → ℕ → S) (judge judge′ : S → Option 
   same-note i none r r′ f h = h f
   same-note i (some v) r r′ f h = refl
 
-  pub same-scan : (s : S) (i : ℕ) (xs : List ℕ) → ((j : ℕ) → scan step judge s i xs ≡ stop j w → ⊥) → scan step judge′ s i xs ≡ scan step judge s i xs
+  pub same-scan : (s : S) (i : ℕ) (xs : List ℕ) → ((j : ℕ) → scan step judge s i xs ≡ stop j w → ⊥)
+      → scan step judge′ s i xs ≡ scan step judge s i xs
   same-scan s i [] f = refl
   same-scan s i (b ∷ xs) f =
       ⊎-elim

@@ -1,9 +1,11 @@
--- What is asked of a reader of bodies, in the words of a grammar and its limits: of no machine.
+-- What is asked of a reader of bodies, in the words of a grammar and its limits: of no machine. `demands` in proofs/Demands.antt shows it
+-- of `decode` and `decoded` in specs/Reading.antt, with the grammar and the limits of specs/Grammar.antt.
 use mathlib.Core.Path.{_≡_}
 use mathlib.Core.List.{List, [], _++_}
 use mathlib.Core.Logic.{_↔_}
 use Prim.Native.Nat.{ℕ, suc, _<_, _≤_}
 use lib.ListN.{length, take}
+use Rattle.grammar.specs.Refusals.{MALFORMED, BODY_TOO_LARGE}
 use Rattle.framing.specs.Answer as Answer
 use Rattle.framing.specs.Answer.{Answer}
 
@@ -56,11 +58,11 @@ pub record Decodes (Body : List ℕ → List ℕ → Type 0) (Broken : ℕ → �
     (decode : ℕ → List ℕ → Answer) (decoded : ℕ → List ℕ → List ℕ) : Type 0 where
   pub whole : (r : ℕ) (s : List ℕ) (n k : ℕ) → (decode r s ≡ Answer.whole n k) ↔ ((d : List ℕ) × BeginsWhole Body (Broken r) s n k d)
   pub more : (r : ℕ) (s : List ℕ) → (decode r s ≡ Answer.more) ↔ Unfinished Body (Broken r) s
-  pub malformed : (r : ℕ) (s : List ℕ) (p : ℕ) → (decode r s ≡ Answer.refused 1 p) ↔ Malformed Body (Broken r) s p
-  pub limit : (r : ℕ) (s : List ℕ) (n p : ℕ) → (n ≡ 1 → ⊥) → (decode r s ≡ Answer.refused n p) ↔ Over Body (Broken r) s n p
+  pub malformed : (r : ℕ) (s : List ℕ) (p : ℕ) → (decode r s ≡ Answer.refused MALFORMED p) ↔ Malformed Body (Broken r) s p
+  pub limit : (r : ℕ) (s : List ℕ) (n p : ℕ) → (n ≡ MALFORMED → ⊥) → (decode r s ≡ Answer.refused n p) ↔ Over Body (Broken r) s n p
   pub writes : (r : ℕ) (s : List ℕ) (n k : ℕ) (d : List ℕ) → BeginsWhole Body (Broken r) s n k d → decoded r s ≡ d
   pub keeps : (r : ℕ) (s : List ℕ) → ((n k : ℕ) → decode r s ≡ Answer.whole n k → ⊥) → decoded r s ≡ []
   pub stands : (r : ℕ) (s t : List ℕ) → (decode r s ≡ Answer.more → ⊥)
       → (decode r (s ++ t) ≡ decode r s) × (decoded r (s ++ t) ≡ decoded r s)
-  pub roomier : (r q : ℕ) (s : List ℕ) → r ≤ q → ((p : ℕ) → decode r s ≡ Answer.refused 7 p → ⊥)
+  pub roomier : (r q : ℕ) (s : List ℕ) → r ≤ q → ((p : ℕ) → decode r s ≡ Answer.refused BODY_TOO_LARGE p → ⊥)
       → (decode q s ≡ decode r s) × (decoded q s ≡ decoded r s)

@@ -4,10 +4,17 @@ use mathlib.Core.Path.{_≡_}
 use mathlib.Core.Bool.{Bool, true}
 use mathlib.Core.List.{List, [], _∷_, _++_}
 use Prim.Native.Nat.{ℕ, suc, _+_, _*_, _<_, _≤_}
+use Prim.Native.Char.{code}
 use lib.ListN.{length}
+use Rattle.grammar.specs.Text.{bytes}
+use Rattle.grammar.specs.Refusals.{LINE_TOO_LONG, TRAILER_TOO_LONG, BODY_TOO_LARGE}
 use Rattle.octets.specs.Bytes.{hex?, hex-value, token?, text?, escaped?, content?, octet?}
 
 -- ## Parts
+
+-- "CRLF"
+abbrev pub crlf : List ℕ
+crlf = bytes "\r\n"
 
 -- any number of bytes, each of which passes the test
 pub data Many (p : ℕ → Bool) : List ℕ → Type 0 where
@@ -34,17 +41,17 @@ pub data Size : List ℕ → ℕ → Type 0 where
 pub data Inside : List ℕ → Type 0 where
   end : Inside []
   text : {b : ℕ} {xs : List ℕ} → text? b ≡ true → Inside xs → Inside (b ∷ xs)
-  pair : {b : ℕ} {xs : List ℕ} → escaped? b ≡ true → Inside xs → Inside (92 ∷ b ∷ xs)
+  pair : {b : ℕ} {xs : List ℕ} → escaped? b ≡ true → Inside xs → Inside (code "\\" ∷ b ∷ xs)
 
 -- "a token or quoted string"
 pub data Value : List ℕ → Type 0 where
-  token : {xs : List ℕ} → Token xs → Value xs
-  quoted : {xs : List ℕ} → Inside xs → Value (34 ∷ (xs ++ (34 ∷ [])))
+  token-value : {xs : List ℕ} → Token xs → Value xs
+  quoted-value : {xs : List ℕ} → Inside xs → Value (code "\"" ∷ (xs ++ bytes "\""))
 
 -- "`;` token, optionally `=` and a token or quoted string, no blanks"
 pub data Extension : List ℕ → Type 0 where
-  bare : {n : List ℕ} → Token n → Extension (59 ∷ n)
-  valued : {n v : List ℕ} → Token n → Value v → Extension (59 ∷ (n ++ (61 ∷ v)))
+  bare : {n : List ℕ} → Token n → Extension (code ";" ∷ n)
+  valued : {n v : List ℕ} → Token n → Value v → Extension (code ";" ∷ (n ++ (code "=" ∷ v)))
 
 pub data Extensions : List ℕ → Type 0 where
   none : Extensions []
@@ -57,13 +64,13 @@ pub data Line : List ℕ → ℕ → Type 0 where
 -- "Trailer line: token, `:`, any of HT, 32 to 126, 128 to 255, then CRLF"; any number of them
 pub data Trailer : List ℕ → Type 0 where
   none : Trailer []
-  more : {n f t : List ℕ} → Token n → Many content? f → Trailer t → Trailer (n ++ (58 ∷ (f ++ (13 ∷ 10 ∷ t))))
+  more : {n f t : List ℕ} → Token n → Many content? f → Trailer t → Trailer (n ++ (code ":" ∷ (f ++ (crlf ++ t))))
 
 -- ## Bodies
 
 -- "hex digits of either case with value above zero, extensions, CRLF, that many bytes, CRLF"
 pub data Chunk : List ℕ → List ℕ → Type 0 where
-  chunk : {l x : List ℕ} → Line l (length x) → 0 < length x → Many octet? x → Chunk (l ++ (13 ∷ 10 ∷ (x ++ (13 ∷ 10 ∷ [])))) x
+  chunk : {l x : List ℕ} → Line l (length x) → 0 < length x → Many octet? x → Chunk (l ++ (crlf ++ (x ++ crlf))) x
 
 -- chunks one after the other, with their joined data
 pub data Chunks : List ℕ → List ℕ → Type 0 where
@@ -72,7 +79,7 @@ pub data Chunks : List ℕ → List ℕ → Type 0 where
 
 -- "A size of value zero begins the last chunk, which has no data; then trailer lines, then CRLF"
 pub data Body : List ℕ → List ℕ → Type 0 where
-  body : {c d l t : List ℕ} → Chunks c d → Line l 0 → Trailer t → Body (c ++ (l ++ (13 ∷ 10 ∷ (t ++ (13 ∷ 10 ∷ []))))) d
+  body : {c d l t : List ℕ} → Chunks c d → Line l 0 → Trailer t → Body (c ++ (l ++ (crlf ++ (t ++ crlf)))) d
 
 -- ## Where a byte stands
 -- "The bytes up to and with a byte decide which part of a body it stands in." In each, p is these bytes.
@@ -88,7 +95,7 @@ pub data AtDigit : List ℕ → ℕ → ℕ → ℕ → Type 0 where
 
 -- p ends in the trailer, "all bytes of trailer lines, CR and LF included, without the closing CRLF", of which it has the bytes t
 pub data InTrailer : List ℕ → List ℕ → Type 0 where
-  inTrailer : {c d l t : List ℕ} (u : List ℕ) → Chunks c d → Line l 0 → Trailer (t ++ u) → InTrailer (c ++ (l ++ (13 ∷ 10 ∷ t))) t
+  inTrailer : {c d l t : List ℕ} (u : List ℕ) → Chunks c d → Line l 0 → Trailer (t ++ u) → InTrailer (c ++ (l ++ (crlf ++ t))) t
 
 -- ## Limits
 
@@ -101,8 +108,8 @@ TRAILER_LIMIT = 8192
 -- the last byte of these breaks the limit of that number, in that room
 pub data Broken (room : ℕ) : ℕ → List ℕ → Type 0 where
   -- row 5: "chunk line above 1,024 bytes", at "its byte 1,025"
-  longLine : {p l : List ℕ} → InLine p l → length l ≡ suc LINE_LIMIT → Broken room 5 p
+  longLine : {p l : List ℕ} → InLine p l → length l ≡ suc LINE_LIMIT → Broken room LINE_TOO_LONG p
   -- row 6: "trailer above 8,192 bytes", at "its byte 8,193"
-  longTrailer : {p t : List ℕ} → InTrailer p t → length t ≡ suc TRAILER_LIMIT → Broken room 6 p
+  longTrailer : {p t : List ℕ} → InTrailer p t → length t ≡ suc TRAILER_LIMIT → Broken room TRAILER_TOO_LONG p
   -- row 7: "the digit with which finished chunks plus the value read so far pass" the room
-  noRoom : {p : List ℕ} {t v w : ℕ} → AtDigit p t v w → t + v ≤ room → room < t + w → Broken room 7 p
+  noRoom : {p : List ℕ} {t v w : ℕ} → AtDigit p t v w → t + v ≤ room → room < t + w → Broken room BODY_TOO_LARGE p

@@ -1,4 +1,6 @@
--- What the reader of a chunked body answers in a room, and which bytes it writes: definitions that compute.
+-- What the reader of a chunked body answers in a room, and which bytes it writes: definitions that compute, by a machine.
+-- Nothing of the machine has to be believed: `demands` in proofs/Demands.antt shows of `decode` and `decoded`, in every room and on every
+-- input, what specs/Demand.antt asks over specs/Grammar.antt; and `written` there shows the same of `decode-output`.
 use mathlib.Core.List.{List, _++_}
 use mathlib.Core.Option.{Option}
 use Prim.Native.Nat.{ℕ}

@@ -1,81 +1,38 @@
 -- Parts that have ended stay in front of what is left of the grammar.
-use Prim.Native.Nat.{ℕ, suc}
+use Prim.Native.Nat.{ℕ}
 use mathlib.Core.Path.{_≡_, refl, sym, ap, _∙_}
-use mathlib.Core.Bool.{Bool, true, false, cond, true≢false}
+use mathlib.Core.Bool.{true, true≢false}
 use mathlib.Core.List.{List, [], _∷_, _++_}
-use lib.Dec.{T}
-use Rattle.grammar.specs.Grammar.{Class, Part, Grammar, void, empty, byte, _⨾_, _∣_, star, part, rest, nest}
+use Rattle.grammar.specs.Grammar.{Part, Grammar, void, empty, _⨾_, rest}
 use Rattle.grammar.specs.helpers.Derivative.{deriv, ends, then, live, nullable}
 use Rattle.grammar.specs.helpers.Judge.{held}
 use Rattle.grammar.specs.helpers.Checks.{clear?, ahead}
+use Rattle.grammar.proofs.Forms.{then-all}
 
 module _ {L : Type 0} where
   module _ (c : Part L) where
+    -- a law of a part that has ended, and of what stands behind it
+    behind : (P : Grammar L → Grammar L → Type 0) → P void void → P empty (rest c empty) → ((h : Grammar L) → P h (rest c empty ⨾ h))
+        → (h : Grammar L) → P h (then (rest c empty) h)
+    behind P u v w h = then-all (λ g h k. g ≡ rest c empty → P h k) (λ g e. u) (λ g e. rw e v) (λ g h e. rw e (w h)) (rest c empty) h refl
+
     then-deriv : (h : Grammar L) (i b : ℕ) → deriv (then (rest c empty) h) i b ≡ then (rest c empty) (deriv h i b)
-    then-deriv void i b = refl
-    then-deriv empty i b = refl
-    then-deriv (byte d) i b = refl
-    then-deriv (g ⨾ h) i b = refl
-    then-deriv (g ∣ h) i b = refl
-    then-deriv (star g) i b = refl
-    then-deriv (part l g) i b = refl
-    then-deriv (rest d g) i b = refl
-    then-deriv (nest o d l m g r n) i b = refl
+    then-deriv h i b = behind (λ h k. deriv k i b ≡ then (rest c empty) (deriv h i b)) refl refl (λ h. refl) h
 
     then-ends : (h : Grammar L) (i : ℕ) → ends (then (rest c empty) h) i ≡ then (rest c empty) (ends h i)
-    then-ends void i = refl
-    then-ends empty i = refl
-    then-ends (byte d) i = refl
-    then-ends (g ⨾ h) i = refl
-    then-ends (g ∣ h) i = refl
-    then-ends (star g) i = refl
-    then-ends (part l g) i = refl
-    then-ends (rest d g) i = refl
-    then-ends (nest o d l m g r n) i = refl
+    then-ends h i = behind (λ h k. ends k i ≡ then (rest c empty) (ends h i)) refl refl (λ h. refl) h
 
     then-clear : (h : Grammar L) → clear? (then (rest c empty) h) ≡ clear? h
-    then-clear void = refl
-    then-clear empty = refl
-    then-clear (byte d) = refl
-    then-clear (g ⨾ h) = refl
-    then-clear (g ∣ h) = refl
-    then-clear (star g) = refl
-    then-clear (part l g) = refl
-    then-clear (rest d g) = refl
-    then-clear (nest o d l m g r n) = refl
+    then-clear = behind (λ h k. clear? k ≡ clear? h) refl refl (λ h. refl)
 
     then-live : (h : Grammar L) → live (then (rest c empty) h) ≡ live h
-    then-live void = refl
-    then-live empty = refl
-    then-live (byte d) = refl
-    then-live (g ⨾ h) = refl
-    then-live (g ∣ h) = refl
-    then-live (star g) = refl
-    then-live (part l g) = refl
-    then-live (rest d g) = refl
-    then-live (nest o d l m g r n) = refl
+    then-live = behind (λ h k. live k ≡ live h) refl refl (λ h. refl)
 
     then-nullable : (h : Grammar L) → nullable (then (rest c empty) h) ≡ nullable h
-    then-nullable void = refl
-    then-nullable empty = refl
-    then-nullable (byte d) = refl
-    then-nullable (g ⨾ h) = refl
-    then-nullable (g ∣ h) = refl
-    then-nullable (star g) = refl
-    then-nullable (part l g) = refl
-    then-nullable (rest d g) = refl
-    then-nullable (nest o d l m g r n) = refl
+    then-nullable = behind (λ h k. nullable k ≡ nullable h) refl refl (λ h. refl)
 
     then-held : (h : Grammar L) → live h ≡ true → held (then (rest c empty) h) ≡ c ∷ held h
-    then-held void l = absurd (true≢false (sym l))
-    then-held empty l = refl
-    then-held (byte d) l = refl
-    then-held (g ⨾ h) l = refl
-    then-held (g ∣ h) l = refl
-    then-held (star g) l = refl
-    then-held (part k g) l = refl
-    then-held (rest d g) l = refl
-    then-held (nest o d j m g r n) l = refl
+    then-held = behind (λ h k. live h ≡ true → held k ≡ c ∷ held h) (λ l. absurd (true≢false (sym l))) (λ l. refl) (λ h l. refl)
 
   pub ahead-deriv : (cs : List (Part L)) (g : Grammar L) (i b : ℕ) → deriv (ahead cs g) i b ≡ ahead cs (deriv g i b)
   ahead-deriv [] g i b = refl

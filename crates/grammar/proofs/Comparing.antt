@@ -3,7 +3,7 @@ use Prim.Native.Nat.{ℕ}
 use native.Mathlib.Omega.{arith}
 use mathlib.Core.Path.{_≡_, refl, sym, ap, _∙_}
 use Rattle.grammar.specs.Reading.{Verdict, value, refused}
-use Rattle.grammar.specs.Comparing.{Comparison, outcome, refused-at, compare}
+use Rattle.grammar.specs.Comparing.{outcome, compare}
 
 module _ {A B : Type 0} where
   pub compare-read : (f : A → A → B) (x y : Verdict A) (v w : A) → x ≡ value v → y ≡ value w → compare f x y ≡ outcome (f v w)
@@ -16,7 +16,8 @@ module _ {A B : Type 0} where
   compare-values f (value v) (refused n p) t e = let z : _≡_ {A = ℕ} 0 1 = cc in absurd (omega arith)
   compare-values f (value v) (value w) t e = (v, w, refl, refl, cc)
 
-  pub compare-swap : (f g : A → A → B) (x y : Verdict A) (t : B) → ((v w : A) → f v w ≡ g w v) → compare f x y ≡ outcome t → compare g y x ≡ outcome t
+  pub compare-swap : (f g : A → A → B) (x y : Verdict A) (t : B) → ((v w : A) → f v w ≡ g w v) → compare f x y ≡ outcome t
+      → compare g y x ≡ outcome t
   compare-swap f g x y t s e =
       let c = compare-values f x y t e in
       compare-read g y x (c .1) (c .0) (c .3) (c .2) ∙ ap outcome (sym (s (c .0) (c .1)) ∙ c .4)

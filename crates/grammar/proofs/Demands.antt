@@ -1,16 +1,19 @@
 -- The theorems of header values, for any kind of them: what a customer reads. Document 01, "Refusal numbers".
-use Prim.Native.Nat.{ℕ}
+use Prim.Native.Nat.{ℕ, zero, suc, _≤_}
+use native.Mathlib.Omega.{arith}
 use mathlib.Core.Path.{_≡_}
 use mathlib.Core.Logic.{_↔_}
 use mathlib.Core.List.{List}
 use lib.Dec.{T}
+use lib.ListN.{length}
 use Rattle.grammar.specs.Grammar.{Part, Grammar, Parses}
 use Rattle.grammar.specs.Beginnings.{Longest}
-use Rattle.grammar.specs.Reading.{Rules, Verdict, Answers}
+use Rattle.grammar.specs.Reading.{Rules, Limit, Passes, Breaks, Sound, Stays, Verdict, Answers}
 use Rattle.grammar.specs.helpers.Derivative.{live, reach}
 use Rattle.grammar.specs.helpers.Judge.{header}
 use Rattle.grammar.specs.helpers.Checks.{fresh?}
 use Rattle.grammar.proofs.Exact as Exact
+use Rattle.grammar.proofs.Places as Places
 use Rattle.grammar.proofs.Deterministic.{deterministic?, deterministic-steady}
 use Rattle.grammar.proofs.Reach.{reach-longest}
 
@@ -18,11 +21,23 @@ use Rattle.grammar.proofs.Reach.{reach-longest}
 pub longest-live : {L : Type 0} (g : Grammar L) → T (live g) → (s : List ℕ) → Longest g s (reach g 0 s)
 longest-live g l s = reach-longest g s l
 
+module _ {L A : Type 0} (r : Rules L A) where
+  -- The place of row 2 is "the digit that passes it", and so with each limit: the byte behind one that breaks it does not break it again.
+  pub broken-once : (s : List ℕ) (l : Limit) (k : ℕ) → Breaks r s l k → Breaks r s l (suc k) → ⊥
+  broken-once s l k here behind = behind .2 (here .1)
+
+  -- And a limit that is passed has such a byte: where none before the place n breaks a limit, none is passed so far.
+  pub unbroken-unpassed : (s : List ℕ) (n : ℕ) → Sound r s n → n ≤ length s → (k : ℕ) (l : Limit) → k ≤ n → Passes r s l k → ⊥
+  unbroken-unpassed s n sound within zero l h passed = passed
+  unbroken-unpassed s n sound within (suc k) l h passed =
+      sound k l (omega arith) (omega arith, passed, unbroken-unpassed s n sound within k l (omega arith))
+
 -- For a grammar that passes three checks, each computed: it has a text, no part of it has begun, and no text can be read in two ways.
-module _ {L A : Type 0} (r : Rules L A) (some : T (live (r .grammar))) (fresh : T (fresh? (r .grammar))) (one-way : T (deterministic? (r .grammar))) where
+module _ {L A : Type 0} (r : Rules L A)
+    (lives : T (live (r .grammar))) (fresh : T (fresh? (r .grammar))) (one-way : T (deterministic? (r .grammar))) where
   -- "Each refusal is given exactly when its row applies and no earlier one does": the computed answer is v just where v is asked for.
   pub answered-exactly : (s : List ℕ) (v : Verdict A) → (header r s ≡ v) ↔ Answers r s v
-  answered-exactly s v = Exact.answers r fresh (deterministic-steady (r .grammar) fresh one-way) some s v
+  answered-exactly s v = Exact.answers r fresh (deterministic-steady (r .grammar) fresh one-way) lives s v
 
   -- one answer is asked for, and no second one
   pub one-answer : (s : List ℕ) (v w : Verdict A) → Answers r s v → Answers r s w → v ≡ w
@@ -31,3 +46,7 @@ module _ {L A : Type 0} (r : Rules L A) (some : T (live (r .grammar))) (fresh : 
   -- a well-formed text has its parts in one way only
   pub one-parse : (s : List ℕ) (ps qs : List (Part L)) → Parses (r .grammar) 0 s ps → Parses (r .grammar) 0 s qs → ps ≡ qs
   one-parse s ps qs = Exact.one-parse r fresh (deterministic-steady (r .grammar) fresh one-way) s ps qs
+
+  -- A limit that stays passed is broken at one place, the one that its row names.
+  pub one-place : (l : Limit) → Stays r l → (s : List ℕ) (j k : ℕ) → Breaks r s l j → Breaks r s l k → j ≡ k
+  one-place l stays = Places.one-place r fresh (deterministic-steady (r .grammar) fresh one-way) l stays

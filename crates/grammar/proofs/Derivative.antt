@@ -2,12 +2,14 @@
 -- `ends g i` has just the empty text, with the parts that it has in g.
 use Prim.Native.Nat.{ℕ, zero, suc}
 use mathlib.Core.Path.{_≡_, refl, sym, ap, subst, _∙_}
-use mathlib.Core.Logic.{_⊎_, inl, inr, _↔_, Iff·trans, Iff·rfl, ⊎-map, ⊎-elim}
+use mathlib.Core.Logic.{_⊎_, inl, inr, _↔_, Iff·trans, Iff·rfl, ⊎-elim}
 use mathlib.Core.Bool.{Bool, true, false, cond, _&&_, _||_}
 use mathlib.Core.List.{List, [], _∷_, _++_, nil≢cons, cons≢nil, append-nil, append-assoc, head-eq-of-cons-eq, tail-eq-of-cons-eq}
 use lib.Dec.{T}
-use Rattle.grammar.specs.Grammar.{Class, Part, Grammar, void, empty, byte, _⨾_, _∣_, star, part, rest, nest, Nest, out, item, opens, closes, Parses, Many, none, more, past, grown, T-left, T-right}
-use Rattle.grammar.specs.helpers.Derivative.{nullable, then, seq, alt, or-else, during, inside, closed, ends, deriv, residual}
+use Rattle.grammar.specs.Grammar.{Class, Part, Grammar, void, empty, byte, _⨾_, _∣_, star, part, rest, nest, Nest, out}
+use Rattle.grammar.specs.Grammar.{item, opens, closes, Parses, Many, none, more, past, grown}
+use Rattle.grammar.specs.helpers.Derivative.{then, seq, alt, during, inside, closed, ends, deriv, residual}
+use Rattle.grammar.proofs.Forms.{then-all, seq-all, alt-all, during-all, inside-all}
 
 pub T-true : (x : Bool) → T x → x ≡ true
 T-true true p = refl
@@ -45,22 +47,18 @@ module _ {L : Type 0} where
   g ≈ h = (i : ℕ) (s : List ℕ) (ps : List (Part L)) → Parses g i s ps ↔ Parses h i s ps
 
   -- `seq`, `alt` and `during` mean ⨾, ∣ and rest
-  end-empty : (g : Grammar L) (i : ℕ) (s t u : List ℕ) (ps qs rs : List (Part L)) → s ≡ t ++ u → ps ≡ qs ++ rs → u ≡ [] → rs ≡ [] → Parses g i t qs → Parses g i s ps
+  end-empty : (g : Grammar L) (i : ℕ) (s t u : List ℕ) (ps qs rs : List (Part L)) → s ≡ t ++ u → ps ≡ qs ++ rs → u ≡ [] → rs ≡ []
+      → Parses g i t qs → Parses g i s ps
   end-empty g i s t u ps qs rs e f p q m = rw (e, f, p, q, append-nil, append-nil) m
 
   then-means : (g h : Grammar L) → then g h ≈ (g ⨾ h)
-  then-means g void i s ps = (λ m. absurd m, λ m. m .7)
-  then-means g empty i s ps = (
-    λ m. (s, [], ps, [], sym (append-nil s), sym (append-nil ps), m, (refl, refl)),
-    λ m. end-empty g i s (m .0) (m .1) ps (m .2) (m .3) (m .4) (m .5) (m .7 .0) (m .7 .1) (m .6),
-  )
-  then-means g (byte c) i s ps = Iff·rfl
-  then-means g (h ⨾ k) i s ps = Iff·rfl
-  then-means g (h ∣ k) i s ps = Iff·rfl
-  then-means g (star h) i s ps = Iff·rfl
-  then-means g (part l h) i s ps = Iff·rfl
-  then-means g (rest c h) i s ps = Iff·rfl
-  then-means g (nest o c l m h r n) i s ps = Iff·rfl
+  then-means =
+      then-all (λ g h k. k ≈ (g ⨾ h)) (λ g i s ps. (λ m. absurd m, λ m. m .7))
+      (λ g i s ps. (
+        λ m. (s, [], ps, [], sym (append-nil s), sym (append-nil ps), m, (refl, refl)),
+        λ m. end-empty g i s (m .0) (m .1) ps (m .2) (m .3) (m .4) (m .5) (m .7 .0) (m .7 .1) (m .6),
+      ))
+      (λ g h i s ps. Iff·rfl)
 
   drop-empty : (h : Grammar L) (i : ℕ) (s t u : List ℕ) (ps qs rs : List (Part L)) → s ≡ t ++ u → ps ≡ qs ++ rs → t ≡ [] → qs ≡ []
       → Parses h (past i t) u rs → Parses h i s ps
@@ -110,50 +108,22 @@ module _ {L : Type 0} where
   )
 
   pub seq-means : (g h : Grammar L) → seq g h ≈ (g ⨾ h)
-  seq-means void h i s ps = (λ m. absurd m, λ m. m .6)
-  seq-means empty h i s ps =
-      (λ m. ([], s, [], ps, refl, refl, (refl, refl), m), λ m. drop-empty h i s (m .0) (m .1) ps (m .2) (m .3) (m .4) (m .5) (m .6 .0) (m .6 .1) (m .7))
-  seq-means (byte c) h i s ps = then-means (byte c) h i s ps
-  seq-means (f ⨾ g) h i s ps =
-      Iff·trans (seq-means f (seq g h) i s ps) (Iff·trans (within-seq f (seq g h) (g ⨾ h) (seq-means g h) i s ps) (assoc f g h i s ps))
-  seq-means (f ∣ g) h i s ps = then-means (f ∣ g) h i s ps
-  seq-means (star g) h i s ps = then-means (star g) h i s ps
-  seq-means (part l g) h i s ps = then-means (part l g) h i s ps
-  seq-means (rest c g) h i s ps = then-means (rest c g) h i s ps
-  seq-means (nest o c l m g r n) h i s ps = then-means (nest o c l m g r n) h i s ps
-
-  or-else-means : (g h : Grammar L) → or-else g h ≈ (g ∣ h)
-  or-else-means g void i s ps = (inl, ⊎-elim (λ m. m) absurd)
-  or-else-means g empty i s ps = Iff·rfl
-  or-else-means g (byte c) i s ps = Iff·rfl
-  or-else-means g (h ⨾ k) i s ps = Iff·rfl
-  or-else-means g (h ∣ k) i s ps = Iff·rfl
-  or-else-means g (star h) i s ps = Iff·rfl
-  or-else-means g (part l h) i s ps = Iff·rfl
-  or-else-means g (rest c h) i s ps = Iff·rfl
-  or-else-means g (nest o c l m h r n) i s ps = Iff·rfl
+  seq-means =
+      seq-all (λ g h k. k ≈ (g ⨾ h)) (λ h i s ps. (λ m. absurd m, λ m. m .6))
+      (λ h i s ps. (
+        λ m. ([], s, [], ps, refl, refl, (refl, refl), m),
+        λ m. drop-empty h i s (m .0) (m .1) ps (m .2) (m .3) (m .4) (m .5) (m .6 .0) (m .6 .1) (m .7),
+      ))
+      then-means
+      (λ f g h x y i s ps. Iff·trans (x i s ps) (Iff·trans (within-seq f (seq g h) (g ⨾ h) y i s ps) (assoc f g h i s ps)))
 
   pub alt-means : (g h : Grammar L) → alt g h ≈ (g ∣ h)
-  alt-means void h i s ps = (inr, ⊎-elim absurd (λ m. m))
-  alt-means empty h i s ps = or-else-means empty h i s ps
-  alt-means (byte c) h i s ps = or-else-means (byte c) h i s ps
-  alt-means (f ⨾ g) h i s ps = or-else-means (f ⨾ g) h i s ps
-  alt-means (f ∣ g) h i s ps = or-else-means (f ∣ g) h i s ps
-  alt-means (star g) h i s ps = or-else-means (star g) h i s ps
-  alt-means (part l g) h i s ps = or-else-means (part l g) h i s ps
-  alt-means (rest c g) h i s ps = or-else-means (rest c g) h i s ps
-  alt-means (nest o c l m g r n) h i s ps = or-else-means (nest o c l m g r n) h i s ps
+  alt-means =
+      alt-all (λ g h k. k ≈ (g ∣ h)) (λ h i s ps. (inr, ⊎-elim absurd (λ m. m))) (λ g i s ps. (inl, ⊎-elim (λ m. m) absurd))
+      (λ g h i s ps. Iff·rfl)
 
   pub during-means : (c : Part L) (g : Grammar L) → during c g ≈ rest c g
-  during-means c void i s ps = (λ m. absurd m, λ m. m .2)
-  during-means c empty i s ps = Iff·rfl
-  during-means c (byte d) i s ps = Iff·rfl
-  during-means c (f ⨾ g) i s ps = Iff·rfl
-  during-means c (f ∣ g) i s ps = Iff·rfl
-  during-means c (star g) i s ps = Iff·rfl
-  during-means c (part l g) i s ps = Iff·rfl
-  during-means c (rest d g) i s ps = Iff·rfl
-  during-means c (nest o d l m g r n) i s ps = Iff·rfl
+  during-means c = during-all (λ g k. k ≈ rest c g) (λ i s ps. (λ m. absurd m, λ m. m .2)) c (λ g i s ps. Iff·rfl)
 
   -- the empty text
   no-more : (P : ℕ → List ℕ → List (Part L) → Type 0) (i : ℕ) (l : List ℕ) (ps : List (Part L)) → Many P i l ps → l ≡ [] → ps ≡ []
@@ -183,12 +153,14 @@ module _ {L : Type 0} where
       (x .0, (z .0, z .1 ∙ ap (λ (t : List ℕ). grown c t ∷ z .0) (x .0), x .1))
   of-ends (nest o c l m g r n) i j s ps k = absurd k
 
-  pub no-nest : (o c : Class) (l m : L) (P : ℕ → List ℕ → List (Part L) → Type 0) (n i : ℕ) (s : List ℕ) (ps : List (Part L)) → Nest o c l m P (suc n) i s ps → s ≡ [] → ⊥
+  pub no-nest : (o c : Class) (l m : L) (P : ℕ → List ℕ → List (Part L) → Type 0) (n i : ℕ) (s : List ℕ) (ps : List (Part L))
+      → Nest o c l m P (suc n) i s ps → s ≡ [] → ⊥
   no-nest o c l m P n i s ps (item b t u qs rs p k) e = cons≢nil e
   no-nest o c l m P n i s ps (opens b u qs p k) e = cons≢nil e
   no-nest o c l m P n i s ps (closes b u qs p k) e = cons≢nil e
 
-  pub seq-nil : (g h : Grammar L) (i : ℕ) (ps : List (Part L)) (t u : List ℕ) (qs rs : List (Part L)) → [] ≡ t ++ u → ps ≡ qs ++ rs → Parses g i t qs → Parses h (past i t) u rs
+  pub seq-nil : (g h : Grammar L) (i : ℕ) (ps : List (Part L)) (t u : List ℕ) (qs rs : List (Part L)) → [] ≡ t ++ u → ps ≡ qs ++ rs
+      → Parses g i t qs → Parses h (past i t) u rs
       → (qs : List (Part L)) × (rs : List (Part L)) × (ps ≡ qs ++ rs) × Parses g i [] qs × Parses h i [] rs
   seq-nil g h i ps [] [] qs rs e f x y = (qs, rs, f, x, y)
   seq-nil g h i ps [] (b ∷ u) qs rs e f x y = absurd (nil≢cons e)
@@ -215,7 +187,8 @@ module _ {L : Type 0} where
   Cut g h i b s ps =
       (t : List ℕ) × (u : List ℕ) × (qs : List (Part L)) × (rs : List (Part L)) × (s ≡ t ++ u) × (ps ≡ qs ++ rs) × Parses g i (b ∷ t) qs × Parses h (past (suc i) t) u rs
 
-  seq-cons : (g h : Grammar L) (i b : ℕ) (s : List ℕ) (ps : List (Part L)) (t u : List ℕ) (qs rs : List (Part L)) → b ∷ s ≡ t ++ u → ps ≡ qs ++ rs
+  seq-cons : (g h : Grammar L) (i b : ℕ) (s : List ℕ) (ps : List (Part L)) (t u : List ℕ) (qs rs : List (Part L)) → b ∷ s ≡ t ++ u
+      → ps ≡ qs ++ rs
       → Parses g i t qs → Parses h (past i t) u rs
       → ((qs : List (Part L)) × (rs : List (Part L)) × (ps ≡ qs ++ rs) × Parses g i [] qs × Parses h i (b ∷ s) rs) ⊎ Cut g h i b s ps
   unfolding Cut
@@ -236,26 +209,22 @@ module _ {L : Type 0} where
   byte-means true i s ps = (λ m. (tt, m .0, m .1), λ m. (m .1, m .2))
   byte-means false i s ps = (λ m. absurd m, λ m. m .0)
 
-  regrown : (c : Part L) (b : ℕ) (s : List ℕ) (qs : List (Part L)) → _≡_ {A = List (Part L)} (grown c (b ∷ s) ∷ qs) (grown (grown c (b ∷ [])) s ∷ qs)
-  regrown c b s qs = ap (λ (t : List ℕ). record { label = c .label; start = c .start; text = t } ∷ qs) (sym (append-assoc (c .text) (b ∷ []) s))
+  regrown : (c : Part L) (b : ℕ) (s : List ℕ) (qs : List (Part L))
+      → _≡_ {A = List (Part L)} (grown c (b ∷ s) ∷ qs) (grown (grown c (b ∷ [])) s ∷ qs)
+  regrown c b s qs =
+      ap (λ (t : List ℕ). record { label = c .label; start = c .start; text = t } ∷ qs) (sym (append-assoc (c .text) (b ∷ []) s))
 
   -- nested levels: what a byte does to n + 1 open levels
   module _ (o c : Class) (l m : L) (g : Grammar L) where
     inside-means : (n : ℕ) (r : Grammar L) → inside o c l m g n r ≈ nest o c l m g r n
-    inside-means n void i s ps = (λ k. absurd k, λ k. k .6)
-    inside-means n empty i s ps = Iff·rfl
-    inside-means n (byte d) i s ps = Iff·rfl
-    inside-means n (f ⨾ h) i s ps = Iff·rfl
-    inside-means n (f ∣ h) i s ps = Iff·rfl
-    inside-means n (star h) i s ps = Iff·rfl
-    inside-means n (part k h) i s ps = Iff·rfl
-    inside-means n (rest d h) i s ps = Iff·rfl
-    inside-means n (nest p d j k h r w) i s ps = Iff·rfl
+    inside-means n =
+        inside-all (λ r k. k ≈ nest o c l m g r n) (λ i s ps. (λ k. absurd k, λ k. k .6)) o c l m g n (λ r i s ps. Iff·rfl)
 
     abbrev Levels : ℕ → ℕ → List ℕ → List (Part L) → Type 0
     Levels n i s ps = Nest o c l m (Parses g) n i s ps
 
-    unempty : (n i : ℕ) (s t u : List ℕ) (ps qs rs : List (Part L)) → s ≡ t ++ u → ps ≡ qs ++ rs → t ≡ [] → qs ≡ [] → Levels n (past i t) u rs → Levels n i s ps
+    unempty : (n i : ℕ) (s t u : List ℕ) (ps qs rs : List (Part L)) → s ≡ t ++ u → ps ≡ qs ++ rs → t ≡ [] → qs ≡ []
+        → Levels n (past i t) u rs → Levels n i s ps
     unempty n i s [] u ps [] rs e f p q k = rw (e, f) k
     unempty n i s [] u ps (d ∷ qs) rs e f p q k = absurd (cons≢nil q)
     unempty n i s (b ∷ t) u ps qs rs e f p q k = absurd (cons≢nil p)
@@ -292,7 +261,8 @@ module _ {L : Type 0} where
 
       -- the first byte opens a level, closes one, or begins an item
       first : (s k : List ℕ) (ps : List (Part L)) → k ≡ b ∷ s → Levels (suc n) i k ps → Opens s ps ⊎ (Closes s ps ⊎ Item s ps)
-      first s k ps e (item a t u qs rs p x) = inr (inr (t, u, qs, rs, sym (tail-eq-of-cons-eq e), refl, rw (sym (head-eq-of-cons-eq e)) p, x))
+      first s k ps e (item a t u qs rs p x) =
+          inr (inr (t, u, qs, rs, sym (tail-eq-of-cons-eq e), refl, rw (sym (head-eq-of-cons-eq e)) p, x))
       first s k ps e (opens a u qs p x) =
           inl (rw (head-eq-of-cons-eq e) at p, (qs, ap (λ (y : ℕ). record { label = l; start = i; text = y ∷ [] } ∷ qs) (head-eq-of-cons-eq e), rw (tail-eq-of-cons-eq e) at x))
       first s k ps e (closes a u qs p x) =
@@ -301,7 +271,8 @@ module _ {L : Type 0} where
       as-item : (s : List ℕ) (ps : List (Part L)) → Item s ps → Levels (suc n) i (b ∷ s) ps
       as-item s ps z = rw (z .4, z .5) (item b (z .0) (z .1) (z .2) (z .3) (z .6) (z .7))
 
-      cond-means : (x : Bool) (h : Grammar L) (j : ℕ) (s : List ℕ) (ps : List (Part L)) → Parses (cond x h void) j s ps ↔ (T x × Parses h j s ps)
+      cond-means : (x : Bool) (h : Grammar L) (j : ℕ) (s : List ℕ) (ps : List (Part L))
+          → Parses (cond x h void) j s ps ↔ (T x × Parses h j s ps)
       cond-means true h j s ps = (λ k. (tt, k), λ k. k .1)
       cond-means false h j s ps = (λ k. absurd k, λ k. k .0)
 
@@ -313,7 +284,8 @@ module _ {L : Type 0} where
         λ k. ([], s, grown p [] ∷ [], k .0, refl, k .1, ([], refl, (refl, refl)), k .2),
       )
         where
-          go : (t u : List ℕ) (qs rs : List (Part L)) → s ≡ t ++ u → ps ≡ qs ++ rs → (xs : List (Part L)) × (qs ≡ grown p t ∷ xs) × ((t ≡ []) × (xs ≡ [])) → Parses h (past j t) u rs
+          go : (t u : List ℕ) (qs rs : List (Part L)) → s ≡ t ++ u → ps ≡ qs ++ rs
+              → (xs : List (Part L)) × (qs ≡ grown p t ∷ xs) × ((t ≡ []) × (xs ≡ [])) → Parses h (past j t) u rs
               → (qs : List (Part L)) × (ps ≡ grown p [] ∷ qs) × Parses h j s qs
           go [] u qs rs e f x y = (rs, f ∙ rw (x .1, x .2 .1), rw e y)
           go (a ∷ t) u qs rs e f x y = absurd (cons≢nil (x .2 .0))
@@ -327,7 +299,8 @@ module _ {L : Type 0} where
       abbrev turn : Grammar L
       turn = alt up (alt down (inside o c l m g n (deriv g i b)))
 
-      turn-of : ((t : List ℕ) (qs : List (Part L)) → Parses g i (b ∷ t) qs → Parses (deriv g i b) (suc i) t qs) → (s : List ℕ) (ps : List (Part L))
+      turn-of : ((t : List ℕ) (qs : List (Part L)) → Parses g i (b ∷ t) qs → Parses (deriv g i b) (suc i) t qs)
+          → (s : List ℕ) (ps : List (Part L))
           → Levels (suc n) i (b ∷ s) ps → Parses turn (suc i) s ps
       turn-of f s ps k =
           ⊎-elim
@@ -348,7 +321,8 @@ module _ {L : Type 0} where
           (λ z. inr (inside-means n (deriv g i b) (suc i) s ps .1 (z .0, z .1, z .2, z .3, z .4, z .5, f (z .0) (z .2) (z .6), z .7))) y))))
           (first s (b ∷ s) ps refl k)
 
-      of-turn : ((t : List ℕ) (qs : List (Part L)) → Parses (deriv g i b) (suc i) t qs → Parses g i (b ∷ t) qs) → (s : List ℕ) (ps : List (Part L))
+      of-turn : ((t : List ℕ) (qs : List (Part L)) → Parses (deriv g i b) (suc i) t qs → Parses g i (b ∷ t) qs)
+          → (s : List ℕ) (ps : List (Part L))
           → Parses turn (suc i) s ps → Levels (suc n) i (b ∷ s) ps
       of-turn f s ps k =
           ⊎-elim
@@ -427,7 +401,8 @@ module _ {L : Type 0} where
       ([], b ∷ s, z .2, z .3, refl, z .5, x .1, of-deriv h i b s (z .3) (go (z .0) (z .1) (z .3) (z .4) (x .0) (z .7))))
       (alt-means (seq (deriv g i b) h) (seq (ends g i) (deriv h i b)) (suc i) s ps .0 m)
     where
-      go : (t u : List ℕ) (rs : List (Part L)) → s ≡ t ++ u → t ≡ [] → Parses (deriv h i b) (past (suc i) t) u rs → Parses (deriv h i b) (suc i) s rs
+      go : (t u : List ℕ) (rs : List (Part L)) → s ≡ t ++ u → t ≡ [] → Parses (deriv h i b) (past (suc i) t) u rs
+          → Parses (deriv h i b) (suc i) s rs
       go [] u rs e f y = rw e y
       go (a ∷ t) u rs e f y = absurd (cons≢nil f)
   of-deriv (g ∣ h) i b s ps m =
@@ -456,6 +431,7 @@ module _ {L : Type 0} where
   deriv-means g i b s ps = (deriv-of g i b s ps, of-deriv g i b s ps)
 
   -- along a text: what is left of g after p
-  pub after-means : (g : Grammar L) (i : ℕ) (p s : List ℕ) (ps : List (Part L)) → Parses g i (p ++ s) ps ↔ Parses (residual g i p) (past i p) s ps
-  after-means g i [] s ps = Iff·rfl
-  after-means g i (b ∷ p) s ps = Iff·trans (deriv-means g i b (p ++ s) ps) (after-means (deriv g i b) (suc i) p s ps)
+  pub residual-means : (g : Grammar L) (i : ℕ) (p s : List ℕ) (ps : List (Part L))
+      → Parses g i (p ++ s) ps ↔ Parses (residual g i p) (past i p) s ps
+  residual-means g i [] s ps = Iff·rfl
+  residual-means g i (b ∷ p) s ps = Iff·trans (deriv-means g i b (p ++ s) ps) (residual-means (deriv g i b) (suc i) p s ps)

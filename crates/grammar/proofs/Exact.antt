@@ -1,36 +1,39 @@
 -- The computed answer is the one that is asked for, and the only one: `header r s ≡ v` just if `Answers r s v`.
-use Prim.Native.Nat.{ℕ, zero, suc, _+_, _-_, _≤_, _<_}
+use Prim.Native.Nat.{ℕ, suc, _+_, _-_, _≤_, _<_}
 use native.Mathlib.Omega.{arith}
-use borrow.Author.Tests.{ltb-true, ltb-false, lt-ltb, le-ltb}
+use borrow.Author.Tests.{ltb-true, ltb-false}
 use mathlib.Core.Path.{_≡_, refl, sym, ap, subst, _∙_}
 use mathlib.Core.Logic.{_⊎_, inl, inr, _↔_, ⊎-elim}
 use mathlib.Core.Bool.{Bool, true, false, cond}
 use mathlib.Core.List.{List, [], _∷_, _++_, append-nil, append-assoc}
 use mathlib.Core.Option.{Option, none, some}
 use lib.Dec.{T, ltb}
-use lib.ListN.{length, take, length-append, drop, take-append-drop}
+use lib.ListN.{length, take, length-append}
 use lib.Seq.{take-at, take-length, take-append-add}
-use Rattle.grammar.specs.Grammar.{Part, Grammar, Parses, past, bytes?}
-use Rattle.grammar.specs.Beginnings.{Matches, Live, Longest}
-use Rattle.grammar.specs.helpers.Derivative.{live, nullable, deriv, ends, residual}
-use Rattle.grammar.specs.Reading.{value-limit, Limit, Fault, limit-number, fault-number, Rules, parts-before, SoFar, Breaks, Sound, Verdict, value, refused, Answers, too-long, malformed, breaks, faulty, reads}
+use Rattle.grammar.specs.Grammar.{Part, Grammar, Parses, past}
+use Rattle.grammar.specs.Beginnings.{Live, Longest}
+use Rattle.grammar.specs.helpers.Derivative.{live, nullable, ends, residual}
+use Rattle.grammar.specs.Reading.{value-limit, Limit, Fault, limit-number, fault-number, Rules}
+use Rattle.grammar.specs.Reading.{parts-before, SoFar, Passes, Breaks, Sound, Verdict, value, refused}
+use Rattle.grammar.specs.Reading.{Answers, too-long, malformed, breaks, faulty, reads}
 use Rattle.grammar.specs.helpers.Judge.{held, unless, turn, unless-fault, finished, judge, header}
-use Rattle.grammar.specs.helpers.Checks.{fresh?, still?, clear?}
-use Rattle.grammar.proofs.Derivative.{T-true, T-false, after-means, to-ends, of-ends}
-use Rattle.grammar.proofs.Longest.{past-length, past-snoc, after-snoc, live-of, text-of, nullable-of, of-nullable, live-computed, live-front}
-use Rattle.grammar.proofs.Held.{fresh-begun, begun-after, held-cut, held-end, still-ends}
+use Rattle.grammar.specs.helpers.Checks.{fresh?, clear?}
+use Rattle.grammar.proofs.Derivative.{residual-means, to-ends}
+use Rattle.grammar.proofs.Longest.{past-length, past-snoc, residual-snoc, live-of, text-of, nullable-of, of-nullable}
+use Rattle.grammar.proofs.Longest.{live-computed, live-front}
+use Rattle.grammar.proofs.Held.{fresh-begun, residual-begun, held-before, held-end, still-ends}
 
 at-end : (p : List ℕ) → past 0 p ≡ length p
 at-end p = past-length 0 p ∙ omega arith
 
-below : (k n : ℕ) → k < suc n → (k < n) ⊎ (k ≡ n)
+pub below : (k n : ℕ) → k < suc n → (k < n) ⊎ (k ≡ n)
 below k n h = go (ltb k n) refl
   where
     go : (x : Bool) → ltb k n ≡ x → (k < n) ⊎ (k ≡ n)
     go true e = inl (ltb-true k n e)
     go false e = inr (omega (arith, ltb-false k n e))
 
-orders : (k n : ℕ) → (k < n) ⊎ ((n < k) ⊎ (k ≡ n))
+pub orders : (k n : ℕ) → (k < n) ⊎ ((n < k) ⊎ (k ≡ n))
 orders k n = go (ltb k n) (ltb n k) refl refl
   where
     go : (x y : Bool) → ltb k n ≡ x → ltb n k ≡ y → (k < n) ⊎ ((n < k) ⊎ (k ≡ n))
@@ -53,20 +56,21 @@ module _ {L A : Type 0} (r : Rules L A) (fresh : T (fresh? (r .grammar))) (stead
   abbrev g : Grammar L
   g = r .grammar
 
-  begun-parts : (p t : List ℕ) (qs : List (Part L)) → Parses (residual g 0 p) (past 0 p) t qs → parts-before (length p) qs ≡ held (residual g 0 p)
+  pub begun-parts : (p t : List ℕ) (qs : List (Part L)) → Parses (residual g 0 p) (past 0 p) t qs
+      → parts-before (length p) qs ≡ held (residual g 0 p)
   begun-parts p t qs m =
       ap (λ (n : ℕ). parts-before n qs) (sym (at-end p))
-      ∙ held-cut (residual g 0 p) (past 0 p) t qs (begun-after g 0 p (fresh-begun g 0 fresh)) (steady p .0) m
+      ∙ held-before (residual g 0 p) (past 0 p) t qs (residual-begun g 0 p (fresh-begun g 0 fresh)) (steady p .0) m
 
   pub so-far : (p : List ℕ) (ps : List (Part L)) → SoFar r p ps → T (live (residual g 0 p)) × (ps ≡ held (residual g 0 p))
   so-far p ps v =
-      let m = after-means g 0 p (v .0) (v .1) .0 (v .3) in
+      let m = residual-means g 0 p (v .0) (v .1) .0 (v .3) in
       (live-of (residual g 0 p) (past 0 p) (v .0) (v .1) m, v .4 ∙ begun-parts p (v .0) (v .1) m)
 
   pub of-live : (p : List ℕ) → T (live (residual g 0 p)) → SoFar r p (held (residual g 0 p))
   of-live p l =
       let x = text-of (residual g 0 p) (past 0 p) l in
-      (x .0, x .1, x .2, after-means g 0 p (x .0) (x .1) .1 (x .3), sym (begun-parts p (x .0) (x .1) (x .3)))
+      (x .0, x .1, x .2, residual-means g 0 p (x .0) (x .1) .1 (x .3), sym (begun-parts p (x .0) (x .1) (x .3)))
 
   abbrev parts : List ℕ → List (Part L)
   parts s = held (ends (residual g 0 s) (past 0 s))
@@ -77,7 +81,7 @@ module _ {L A : Type 0} (r : Rules L A) (fresh : T (fresh? (r .grammar))) (stead
 
   pub parse-end : (s : List ℕ) (ps : List (Part L)) → Parses g 0 s ps → T (nullable (residual g 0 s)) × (ps ≡ parts s)
   parse-end s ps m =
-      let n = after-means g 0 s [] ps .0 (rw append-nil m) in
+      let n = residual-means g 0 s [] ps .0 (rw append-nil m) in
       (nullable-of (residual g 0 s) (past 0 s) ps n, end-parts s ps n)
 
   -- a text has one list of parts
@@ -87,11 +91,15 @@ module _ {L A : Type 0} (r : Rules L A) (fresh : T (fresh? (r .grammar))) (stead
   pub end-parse : (s : List ℕ) → T (nullable (residual g 0 s)) → Parses g 0 s (parts s)
   end-parse s n =
       let x = of-nullable (residual g 0 s) (past 0 s) n in
-      let m = after-means g 0 s [] (x .0) .1 (x .1) in
+      let m = residual-means g 0 s [] (x .0) .1 (x .1) in
       rw (append-nil, end-parts s (x .0) (x .1)) at m
 
   -- The judgement is one that is asked.
   module _ (s : List ℕ) (short : length s ≤ value-limit) where
+    -- no byte before the place n breaks a limit, and none is passed with the last of them
+    abbrev Clean : ℕ → Type 0
+    Clean n = Sound r s n × ((x : Limit) → Passes r s x n → ⊥)
+
     -- at the end
     finish-whole : Parses g 0 s (parts s) → Sound r s (length s) → (f : Option Fault) → r .fault (parts s) ≡ f
         → Answers r s (unless-fault f (r .value (parts s)))
@@ -105,7 +113,7 @@ module _ {L A : Type 0} (r : Rules L A) (fresh : T (fresh? (r .grammar))) (stead
     finish p e l q false f =
         rw (at-end p) (malformed {p = length p} short (λ m. rw f at (parse-end p (m .0) (rw e at (m .1)) .0))
         (record { within = omega (arith, ap length e); lives = rw (e, take-length) (live-computed g p .1 l); longest = λ m h v. omega (arith, ap length e) })
-        q)
+        (λ k x h br. q k x (omega arith) br))
 
     -- at a byte
     module _ (p : List ℕ) (b : ℕ) (t : List ℕ) (e : s ≡ p ++ (b ∷ t)) where
@@ -138,40 +146,48 @@ module _ {L A : Type 0} (r : Rules L A) (fresh : T (fresh? (r .grammar))) (stead
             lives = rw (e, take-at p (b ∷ t) (length p) refl) (live-computed g p .1 l);
             longest = λ m h v. longer m v (ltb (length p) m) refl;
           })
-          q
+          (λ k x h br. q k x (omega arith) br)
         where
           longer : (m : ℕ) → Live g (take m s) → (x : Bool) → ltb (length p) m ≡ x → m ≤ length p
           longer m v true f = absurd (d (live-front g on (take (m - suc (length p)) t) (rw (beyond m (ltb-true (length p) m f)) at v)))
           longer m v false f = ltb-false (length p) m f
 
-      over : (x : Limit) → T (live (residual g 0 on)) → Sound r s (length p) → r .limit (length p) (held (residual g 0 on)) ≡ some x
+      over : (x : Limit) → T (live (residual g 0 on)) → Clean (length p) → r .limit (length p) (held (residual g 0 on)) ≡ some x
           → Answers r s (refused (limit-number x) (length p))
-      over x l q f = breaks {l = x} {p = length p} short (omega (arith, within), (held (residual g 0 on), rw through (of-live on l), f)) q
+      over x l q f =
+          breaks {l = x} {p = length p} short (omega (arith, within), (held (residual g 0 on), rw through (of-live on l), f), q .1 x) (q .0)
 
-      sound : Sound r s (length p) → r .limit (length p) (held (residual g 0 on)) ≡ none → Sound r s (length on)
-      sound q f k x h br =
-          ⊎-elim (λ y. q k x y br)
-          (λ y.
-          let z = subst (λ (l : List ℕ). SoFar r l (br .1 .0)) (ap (λ (j : ℕ). take (suc j) s) y ∙ through) (br .1 .1) in
-          let w = so-far on (br .1 .0) z in
-          none-some (sym f ∙ sym (ap (r .limit (length p)) (w .1)) ∙ sym (ap (λ (j : ℕ). r .limit j (br .1 .0)) y) ∙ br .1 .2))
-          (below k (length p) (omega (arith, on-length)))
+      module _ (f : r .limit (length p) (held (residual g 0 on)) ≡ none) where
+        unpassed : (x : Limit) → Passes r s x (suc (length p)) → ⊥
+        unpassed x v =
+            let w = so-far on (v .0) (subst (λ (l : List ℕ). SoFar r l (v .0)) through (v .1)) in
+            none-some (sym f ∙ sym (ap (r .limit (length p)) (w .1)) ∙ v .2)
 
-    step : (p : List ℕ) (b : ℕ) (t : List ℕ) → s ≡ p ++ (b ∷ t) → T (live (residual g 0 p)) → Sound r s (length p) → (x : Bool) (y : Option Limit)
+        clean : Clean (length p) → Clean (length on)
+        clean q = (
+          λ k x h br.
+              ⊎-elim (λ y. q .0 k x y br) (λ y. unpassed x (subst (λ (j : ℕ). Passes r s x (suc j)) y (br .1)))
+              (below k (length p) (omega (arith, on-length))),
+          subst (λ (n : ℕ). (x : Limit) → Passes r s x n → ⊥) (sym on-length) unpassed,
+        )
+
+    step : (p : List ℕ) (b : ℕ) (t : List ℕ) → s ≡ p ++ (b ∷ t) → T (live (residual g 0 p)) → Clean (length p)
+        → (x : Bool) (y : Option Limit)
         → live (residual g 0 (p ++ b ∷ [])) ≡ x → r .limit (length p) (held (residual g 0 (p ++ b ∷ []))) ≡ y
-        → (s ≡ (p ++ b ∷ []) ++ t → T (live (residual g 0 (p ++ b ∷ []))) → Sound r s (length (p ++ b ∷ [])) → Answers r s (judge r (residual g 0 (p ++ b ∷ [])) t (past 0 (p ++ b ∷ []))))
+        → (s ≡ (p ++ b ∷ []) ++ t → T (live (residual g 0 (p ++ b ∷ []))) → Clean (length (p ++ b ∷ []))
+        → Answers r s (judge r (residual g 0 (p ++ b ∷ [])) t (past 0 (p ++ b ∷ []))))
         → Answers r s (cond x (unless y (length p) (judge r (residual g 0 (p ++ b ∷ [])) t (past 0 (p ++ b ∷ [])))) (refused 1 (length p)))
-    step p b t e l q true none f h k = k (all p b t e) (rw f tt) (sound p b t e q h)
+    step p b t e l q true none f h k = k (all p b t e) (rw f tt) (clean p b t e h q)
     step p b t e l q true (some x) f h k = over p b t e x (rw f tt) q h
-    step p b t e l q false y f h k = dead p b t e l q (λ z. rw f at z)
+    step p b t e l q false y f h k = dead p b t e l (q .0) (λ z. rw f at z)
 
     turned : (p : List ℕ) (b : ℕ) (t : List ℕ)
         → judge r (residual g 0 p) (b ∷ t) (past 0 p)
         ≡ turn (live (residual g 0 (p ++ b ∷ []))) (r .limit (length p) (held (residual g 0 (p ++ b ∷ [])))) (length p) (judge r (residual g 0 (p ++ b ∷ [])) t (past 0 (p ++ b ∷ [])))
-    turned p b t = rw (after-snoc g 0 p b, past-snoc 0 p b, ← at-end p)
+    turned p b t = rw (residual-snoc g 0 p b, past-snoc 0 p b, ← at-end p)
 
-    walk : (p t : List ℕ) → s ≡ p ++ t → T (live (residual g 0 p)) → Sound r s (length p) → Answers r s (judge r (residual g 0 p) t (past 0 p))
-    walk p [] e l q = finish p (e ∙ append-nil p) l q (nullable (residual g 0 p)) refl
+    walk : (p t : List ℕ) → s ≡ p ++ t → T (live (residual g 0 p)) → Clean (length p) → Answers r s (judge r (residual g 0 p) t (past 0 p))
+    walk p [] e l q = finish p (e ∙ append-nil p) l (q .0) (nullable (residual g 0 p)) refl
     walk p (b ∷ t) e l q =
         rw (turned p b t)
         (step p b t e l q (live (residual g 0 (p ++ b ∷ []))) (r .limit (length p) (held (residual g 0 (p ++ b ∷ [])))) refl refl (walk (p ++ b ∷ []) t))
@@ -180,8 +196,8 @@ module _ {L A : Type 0} (r : Rules L A) (fresh : T (fresh? (r .grammar))) (stead
   judged s l = go (ltb value-limit (length s)) refl
     where
       go : (x : Bool) → ltb value-limit (length s) ≡ x → Answers r s (cond x (refused 13 value-limit) (judge r g s 0))
-      go true e = too-long (ltb-true value-limit (length s) e)
-      go false e = walk s (ltb-false value-limit (length s) e) [] s refl l (λ k n h. absurd (omega arith))
+      go true e = too-long (omega (arith, ltb-true value-limit (length s) e))
+      go false e = walk s (ltb-false value-limit (length s) e) [] s refl l (λ k n h. absurd (omega arith), λ x v. v)
 
   -- Only one is.
   last : (s : List ℕ) (x : Limit) (k p : ℕ) → Longest g s p → Sound r s p → Breaks r s x k → ⊥
@@ -219,7 +235,8 @@ module _ {L A : Type 0} (r : Rules L A) (fresh : T (fresh? (r .grammar))) (stead
       go : (p < k) ⊎ ((k < p) ⊎ (p ≡ k)) → _≡_ {A = Verdict A} (refused (limit-number l) p) (refused (limit-number m) k)
       go (inl h) = absurd (z p l h b)
       go (inr (inl h)) = absurd (c k m h y)
-      go (inr (inr h)) = ap (λ (q : ℕ). refused (limit-number l) q) h ∙ ap (λ (q : Limit). refused (limit-number q) k) (same-limit s l m p k h b y)
+      go (inr (inr h)) =
+          ap (λ (q : ℕ). refused (limit-number l) q) h ∙ ap (λ (q : Limit). refused (limit-number q) k) (same-limit s l m p k h b y)
   only s v w (breaks {l} {p} a b c) (faulty x y z u) = absurd (z p l (b .0) b)
   only s v w (breaks {l} {p} a b c) (reads x y z u) = absurd (z p l (b .0) b)
   only s v w (faulty a b c d) (too-long x) = absurd (omega arith)

@@ -1,20 +1,22 @@
 -- The parts that have begun, `held`, are those of every text that goes on from here.
-use Prim.Native.Nat.{ℕ, zero, suc, _+_, _-_, _≤_, _<_, zero-le, suc-le-suc}
+use Prim.Native.Nat.{ℕ, zero, suc, _+_, _-_, _≤_, _<_}
 use native.Mathlib.Omega.{arith}
-use borrow.Author.Tests.{ltb-true, ltb-false, lt-ltb, le-ltb}
+use borrow.Author.Tests.{lt-ltb, le-ltb}
 use mathlib.Core.Path.{_≡_, refl, sym, ap, _∙_}
-use mathlib.Core.Logic.{_⊎_, inl, inr, _↔_, ⊎-elim}
-use mathlib.Core.Bool.{Bool, true, false, cond, _&&_, _||_}
-use mathlib.Core.List.{List, [], _∷_, _++_, append-assoc, append-nil, cons≢nil, nil≢cons}
+use mathlib.Core.Logic.{_⊎_, inl, inr, ⊎-elim}
+use mathlib.Core.Bool.{Bool, true, false, cond}
+use mathlib.Core.List.{List, [], _∷_, _++_, append-nil, cons≢nil}
 use lib.Dec.{T, ltb}
-use lib.ListN.{length, take, length-append}
-use lib.Seq.{take-at, take-length}
-use Rattle.grammar.specs.Grammar.{Class, Part, Grammar, void, empty, byte, _⨾_, _∣_, star, part, rest, nest, Nest, out, item, opens, closes, Parses, Many, none, more, past, grown, bytes?, T-left, T-right}
-use Rattle.grammar.specs.helpers.Derivative.{then, seq, alt, or-else, during, inside, closed, deriv, ends, residual}
+use lib.ListN.{length, take}
+use lib.Seq.{take-at}
+use Rattle.grammar.specs.Grammar.{Class, Part, Grammar, void, empty, byte, _⨾_, _∣_, star, part, rest, nest, Nest, out}
+use Rattle.grammar.specs.Grammar.{item, opens, closes, Parses, Many, none, more, past, grown, T-left, T-right}
+use Rattle.grammar.specs.helpers.Derivative.{then, seq, alt, during, inside, closed, deriv, ends, residual}
+use Rattle.grammar.proofs.Forms.{then-all, seq-all, alt-all, during-all, inside-all}
 use Rattle.grammar.specs.Reading.{parts-before}
 use Rattle.grammar.specs.helpers.Judge.{held}
 use Rattle.grammar.specs.helpers.Checks.{fresh?, still?, clear?}
-use Rattle.grammar.proofs.Derivative.{T-both, seq-nil, split-nil}
+use Rattle.grammar.proofs.Derivative.{T-both, seq-nil}
 use Rattle.grammar.proofs.Longest.{past-length, past-snoc}
 use Rattle.grammar.proofs.Shapes.{seq-void}
 
@@ -26,48 +28,53 @@ module _ {L : Type 0} where
   kept true c l m q e = ap (λ (k : List (Part L)). c ∷ k) e
   kept false c l m q e = e
 
-  pub cut-append : (n : ℕ) (ps qs : List (Part L)) → parts-before n (ps ++ qs) ≡ parts-before n ps ++ parts-before n qs
-  cut-append n [] qs = refl
-  cut-append n (c ∷ ps) qs =
+  pub before-append : (n : ℕ) (ps qs : List (Part L)) → parts-before n (ps ++ qs) ≡ parts-before n ps ++ parts-before n qs
+  before-append n [] qs = refl
+  before-append n (c ∷ ps) qs =
       kept (ltb (c .start) n) (record { label = c .label; start = c .start; text = take (n - c .start) (c .text) }) (parts-before n (ps ++ qs)) (parts-before n ps) (parts-before n qs)
-      (cut-append n ps qs)
+      (before-append n ps qs)
 
   -- a text of a fresh grammar has no part that begins before it
-  fresh-many : (i j : ℕ) (P : ℕ → List ℕ → List (Part L) → Type 0) → ((k : ℕ) (t : List ℕ) (ps : List (Part L)) → i ≤ k → P k t ps → parts-before i ps ≡ [])
+  fresh-many : (i j : ℕ) (P : ℕ → List ℕ → List (Part L) → Type 0)
+      → ((k : ℕ) (t : List ℕ) (ps : List (Part L)) → i ≤ k → P k t ps → parts-before i ps ≡ [])
       → i ≤ j → (l : List ℕ) (ps : List (Part L)) → Many P j l ps → parts-before i ps ≡ []
   fresh-many i j P f h l ps none = refl
   fresh-many i j P f h l ps (more b t u qs rs m n) =
-      cut-append i qs rs
+      before-append i qs rs
       ∙ ap (λ (k : List (Part L)). k ++ parts-before i rs) (f j (b ∷ t) qs h m)
       ∙ fresh-many i (past (suc j) t) P f (omega (arith, past-le (suc j) t)) u rs n
 
-  fresh-nest : (o c : Class) (l m : L) (i : ℕ) (P : ℕ → List ℕ → List (Part L) → Type 0) → ((k : ℕ) (t : List ℕ) (ps : List (Part L)) → i ≤ k → P k t ps → parts-before i ps ≡ [])
+  fresh-nest : (o c : Class) (l m : L) (i : ℕ) (P : ℕ → List ℕ → List (Part L) → Type 0)
+      → ((k : ℕ) (t : List ℕ) (ps : List (Part L)) → i ≤ k → P k t ps → parts-before i ps ≡ [])
       → (n j : ℕ) → i ≤ j → (s : List ℕ) (ps : List (Part L)) → Nest o c l m P n j s ps → parts-before i ps ≡ []
   fresh-nest o c l m i P f n j h s ps out = refl
   fresh-nest o c l m i P f n j h s ps (item {n = w} b t u qs rs p k) =
-      cut-append i qs rs
+      before-append i qs rs
       ∙ ap (λ (x : List (Part L)). x ++ parts-before i rs) (f j (b ∷ t) qs h p)
       ∙ fresh-nest o c l m i P f (suc w) (past (suc j) t) (omega (arith, past-le (suc j) t)) u rs k
-  fresh-nest o c l m i P f n j h s ps (opens {n = w} b u qs p k) = rw (le-ltb j i h) (fresh-nest o c l m i P f (suc (suc w)) (suc j) (omega arith) u qs k)
-  fresh-nest o c l m i P f n j h s ps (closes {n = w} b u qs p k) = rw (le-ltb j i h) (fresh-nest o c l m i P f w (suc j) (omega arith) u qs k)
+  fresh-nest o c l m i P f n j h s ps (opens {n = w} b u qs p k) =
+      rw (le-ltb j i h) (fresh-nest o c l m i P f (suc (suc w)) (suc j) (omega arith) u qs k)
+  fresh-nest o c l m i P f n j h s ps (closes {n = w} b u qs p k) =
+      rw (le-ltb j i h) (fresh-nest o c l m i P f w (suc j) (omega arith) u qs k)
 
-  pub fresh-cut : (g : Grammar L) (i j : ℕ) (t : List ℕ) (ps : List (Part L)) → T (fresh? g) → i ≤ j → Parses g j t ps → parts-before i ps ≡ []
-  fresh-cut void i j t ps f h m = absurd m
-  fresh-cut empty i j t ps f h m = ap (parts-before i) (m .1)
-  fresh-cut (byte c) i j t ps f h m = ap (parts-before i) (m .3)
-  fresh-cut (g ⨾ k) i j t ps f h m =
-      ap (parts-before i) (m .5) ∙ cut-append i (m .2) (m .3)
-      ∙ ap (λ (l : List (Part L)). l ++ parts-before i (m .3)) (fresh-cut g i j (m .0) (m .2) (T-left (fresh? g) (fresh? k) f) h (m .6))
-      ∙ fresh-cut k i (past j (m .0)) (m .1) (m .3) (T-right (fresh? g) (fresh? k) f) (omega (arith, past-le j (m .0))) (m .7)
-  fresh-cut (g ∣ k) i j t ps f h (inl m) = fresh-cut g i j t ps (T-left (fresh? g) (fresh? k) f) h m
-  fresh-cut (g ∣ k) i j t ps f h (inr m) = fresh-cut k i j t ps (T-right (fresh? g) (fresh? k) f) h m
-  fresh-cut (star g) i j t ps f h m = fresh-many i j (Parses g) (λ k u qs l n. fresh-cut g i k u qs f l n) h t ps m
-  fresh-cut (part l g) i j t ps f h m = rw (m .1, le-ltb j i h) (fresh-cut g i j t (m .0) f h (m .2))
-  fresh-cut (rest c g) i j t ps f h m = absurd f
-  fresh-cut (nest o c l m g r n) i j t ps f h k =
-      ap (parts-before i) (k .5) ∙ cut-append i (k .2) (k .3)
-      ∙ ap (λ (x : List (Part L)). x ++ parts-before i (k .3)) (fresh-cut r i j (k .0) (k .2) (T-right (fresh? g) (fresh? r) f) h (k .6))
-      ∙ fresh-nest o c l m i (Parses g) (λ w u qs y z. fresh-cut g i w u qs (T-left (fresh? g) (fresh? r) f) y z) (suc n) (past j (k .0)) (omega (arith, past-le j (k .0))) (k .1) (k .3) (k .7)
+  pub fresh-before : (g : Grammar L) (i j : ℕ) (t : List ℕ) (ps : List (Part L)) → T (fresh? g) → i ≤ j → Parses g j t ps
+      → parts-before i ps ≡ []
+  fresh-before void i j t ps f h m = absurd m
+  fresh-before empty i j t ps f h m = ap (parts-before i) (m .1)
+  fresh-before (byte c) i j t ps f h m = ap (parts-before i) (m .3)
+  fresh-before (g ⨾ k) i j t ps f h m =
+      ap (parts-before i) (m .5) ∙ before-append i (m .2) (m .3)
+      ∙ ap (λ (l : List (Part L)). l ++ parts-before i (m .3)) (fresh-before g i j (m .0) (m .2) (T-left (fresh? g) (fresh? k) f) h (m .6))
+      ∙ fresh-before k i (past j (m .0)) (m .1) (m .3) (T-right (fresh? g) (fresh? k) f) (omega (arith, past-le j (m .0))) (m .7)
+  fresh-before (g ∣ k) i j t ps f h (inl m) = fresh-before g i j t ps (T-left (fresh? g) (fresh? k) f) h m
+  fresh-before (g ∣ k) i j t ps f h (inr m) = fresh-before k i j t ps (T-right (fresh? g) (fresh? k) f) h m
+  fresh-before (star g) i j t ps f h m = fresh-many i j (Parses g) (λ k u qs l n. fresh-before g i k u qs f l n) h t ps m
+  fresh-before (part l g) i j t ps f h m = rw (m .1, le-ltb j i h) (fresh-before g i j t (m .0) f h (m .2))
+  fresh-before (rest c g) i j t ps f h m = absurd f
+  fresh-before (nest o c l m g r n) i j t ps f h k =
+      ap (parts-before i) (k .5) ∙ before-append i (k .2) (k .3)
+      ∙ ap (λ (x : List (Part L)). x ++ parts-before i (k .3)) (fresh-before r i j (k .0) (k .2) (T-right (fresh? g) (fresh? r) f) h (k .6))
+      ∙ fresh-nest o c l m i (Parses g) (λ w u qs y z. fresh-before g i w u qs (T-left (fresh? g) (fresh? r) f) y z) (suc n) (past j (k .0)) (omega (arith, past-le j (k .0))) (k .1) (k .3) (k .7)
 
   fresh-held : (g : Grammar L) → T (fresh? g) → held g ≡ []
   fresh-held void f = refl
@@ -131,39 +138,16 @@ module _ {L : Type 0} where
   fresh-begun (nest o c l m g r n) i f = (T-left (fresh? g) (fresh? r) f, fresh-begun r i (T-right (fresh? g) (fresh? r) f))
 
   fresh-then : (g h : Grammar L) → T (fresh? g) → T (fresh? h) → T (fresh? (then g h))
-  fresh-then g void v w = tt
-  fresh-then g empty v w = v
-  fresh-then g (byte c) v w = T-both (fresh? g) true v w
-  fresh-then g (h ⨾ k) v w = T-both (fresh? g) (fresh? (h ⨾ k)) v w
-  fresh-then g (h ∣ k) v w = T-both (fresh? g) (fresh? (h ∣ k)) v w
-  fresh-then g (star h) v w = T-both (fresh? g) (fresh? h) v w
-  fresh-then g (part l h) v w = T-both (fresh? g) (fresh? h) v w
-  fresh-then g (rest c h) v w = absurd w
-  fresh-then g (nest o c l m h r n) v w = T-both (fresh? g) (fresh? (nest o c l m h r n)) v w
+  fresh-then = then-all (λ g h k. T (fresh? g) → T (fresh? h) → T (fresh? k)) (λ g v w. tt) (λ g v w. v) (λ g h v w. T-both (fresh? g) (fresh? h) v w)
 
   fresh-seq : (g h : Grammar L) → T (fresh? g) → T (fresh? h) → T (fresh? (seq g h))
-  fresh-seq void h v w = tt
-  fresh-seq empty h v w = w
-  fresh-seq (byte c) h v w = fresh-then (byte c) h v w
-  fresh-seq (f ⨾ g) h v w = fresh-seq f (seq g h) (T-left (fresh? f) (fresh? g) v) (fresh-seq g h (T-right (fresh? f) (fresh? g) v) w)
-  fresh-seq (f ∣ g) h v w = fresh-then (f ∣ g) h v w
-  fresh-seq (star g) h v w = fresh-then (star g) h v w
-  fresh-seq (part l g) h v w = fresh-then (part l g) h v w
-  fresh-seq (rest c g) h v w = absurd v
-  fresh-seq (nest o c l m g r n) h v w = fresh-then (nest o c l m g r n) h v w
+  fresh-seq =
+      seq-all (λ g h k. T (fresh? g) → T (fresh? h) → T (fresh? k)) (λ h v w. tt) (λ h v w. w) fresh-then
+      (λ f g h x y v w. x (T-left (fresh? f) (fresh? g) v) (y (T-right (fresh? f) (fresh? g) v) w))
 
   module _ (i : ℕ) where
     begun-then : (g h : Grammar L) → Begun i (g ⨾ h) → Begun i (then g h)
-    begun-then g void w = tt
-    begun-then g empty (inl w) = w .0
-    begun-then g empty (inr w) = w .1
-    begun-then g (byte c) w = w
-    begun-then g (h ⨾ k) w = w
-    begun-then g (h ∣ k) w = w
-    begun-then g (star h) w = w
-    begun-then g (part l h) w = w
-    begun-then g (rest c h) w = w
-    begun-then g (nest o c l m h r n) w = w
+    begun-then = then-all (λ g h k. Begun i (g ⨾ h) → Begun i k) (λ g w. tt) (λ g. ⊎-elim (λ w. w .0) (λ w. w .1)) (λ g h w. w)
 
     halves : (f g : Grammar L) → Begun i (f ⨾ g) → Begun i f × Begun i g
     halves f g (inl w) = (w .0, fresh-begun g i (w .1))
@@ -175,124 +159,42 @@ module _ {L : Type 0} where
     half f g h x y (inr v) w = x (inr (v .0, v .1, y (inl (v .2, w))))
 
     begun-seq : (g h : Grammar L) → Begun i (g ⨾ h) → Begun i (seq g h)
-    begun-seq void h w = tt
-    begun-seq empty h (inl w) = fresh-begun h i (w .1)
-    begun-seq empty h (inr w) = w .2
-    begun-seq (byte c) h w = begun-then (byte c) h w
-    begun-seq (f ⨾ g) h (inl w) = half f g h (begun-seq f (seq g h)) (begun-seq g h) (w .0) (w .1)
-    begun-seq (f ⨾ g) h (inr w) =
-        let x = halves f g (w .1) in
-        begun-seq f (seq g h)
-        (inr (T-left (still? f) (still? g) (w .0), x .0, begun-seq g h (inr (T-right (still? f) (still? g) (w .0), x .1, w .2))))
-    begun-seq (f ∣ g) h w = begun-then (f ∣ g) h w
-    begun-seq (star g) h w = begun-then (star g) h w
-    begun-seq (part l g) h w = begun-then (part l g) h w
-    begun-seq (rest c g) h w = begun-then (rest c g) h w
-    begun-seq (nest o c l m g r n) h w = begun-then (nest o c l m g r n) h w
-
-    begun-or : (g h : Grammar L) → Begun i g → Begun i h → Begun i (or-else g h)
-    begun-or g void v w = v
-    begun-or g empty v w = (v, w)
-    begun-or g (byte c) v w = (v, w)
-    begun-or g (h ⨾ k) v w = (v, w)
-    begun-or g (h ∣ k) v w = (v, w)
-    begun-or g (star h) v w = (v, w)
-    begun-or g (part l h) v w = (v, w)
-    begun-or g (rest c h) v w = (v, w)
-    begun-or g (nest o c l m h r n) v w = (v, w)
+    begun-seq =
+        seq-all (λ g h k. Begun i (g ⨾ h) → Begun i k) (λ h w. tt) (λ h. ⊎-elim (λ w. fresh-begun h i (w .1)) (λ w. w .2)) begun-then
+        (λ f g h x y.
+        ⊎-elim (λ w. half f g h x y (w .0) (w .1))
+        (λ w.
+        let z = halves f g (w .1) in
+        x (inr (T-left (still? f) (still? g) (w .0), z .0, y (inr (T-right (still? f) (still? g) (w .0), z .1, w .2))))))
 
     begun-alt : (g h : Grammar L) → Begun i g → Begun i h → Begun i (alt g h)
-    begun-alt void h v w = w
-    begun-alt empty h v w = begun-or empty h v w
-    begun-alt (byte c) h v w = begun-or (byte c) h v w
-    begun-alt (f ⨾ g) h v w = begun-or (f ⨾ g) h v w
-    begun-alt (f ∣ g) h v w = begun-or (f ∣ g) h v w
-    begun-alt (star g) h v w = begun-or (star g) h v w
-    begun-alt (part l g) h v w = begun-or (part l g) h v w
-    begun-alt (rest c g) h v w = begun-or (rest c g) h v w
-    begun-alt (nest o c l m g r n) h v w = begun-or (nest o c l m g r n) h v w
+    begun-alt = alt-all (λ g h k. Begun i g → Begun i h → Begun i k) (λ h v w. w) (λ g v w. v) (λ g h v w. (v, w))
 
     begun-during : (c : Part L) (g : Grammar L) → Begun i (rest c g) → Begun i (during c g)
-    begun-during c void w = tt
-    begun-during c empty w = w
-    begun-during c (byte d) w = w
-    begun-during c (f ⨾ g) w = w
-    begun-during c (f ∣ g) w = w
-    begun-during c (star g) w = w
-    begun-during c (part l g) w = w
-    begun-during c (rest d g) w = w
-    begun-during c (nest o d l m g r n) w = w
+    begun-during c = during-all (λ g k. Begun i (rest c g) → Begun i k) (λ w. tt) c (λ g w. w)
 
     module _ (o c : Class) (l m : L) (g : Grammar L) (n : ℕ) where
       begun-inside : (r : Grammar L) → Begun i (nest o c l m g r n) → Begun i (inside o c l m g n r)
-      begun-inside void w = tt
-      begun-inside empty w = w
-      begun-inside (byte d) w = w
-      begun-inside (f ⨾ h) w = w
-      begun-inside (f ∣ h) w = w
-      begun-inside (star h) w = w
-      begun-inside (part k h) w = w
-      begun-inside (rest d h) w = w
-      begun-inside (nest p d j k h r x) w = w
+      begun-inside = inside-all (λ r k. Begun i (nest o c l m g r n) → Begun i k) (λ w. tt) o c l m g n (λ r w. w)
 
     begun-closed : (o c : Class) (l m : L) (g : Grammar L) (n : ℕ) → T (fresh? g) → Begun i (closed o c l m g n)
     begun-closed o c l m g zero f = tt
     begun-closed o c l m g (suc n) f = (f, tt)
 
   still-then : (g h : Grammar L) → T (still? g) → T (still? h) → T (still? (then g h))
-  still-then g void v w = tt
-  still-then g empty v w = v
-  still-then g (byte c) v w = absurd w
-  still-then g (h ⨾ k) v w = T-both (still? g) (still? (h ⨾ k)) v w
-  still-then g (h ∣ k) v w = T-both (still? g) (still? (h ∣ k)) v w
-  still-then g (star h) v w = absurd w
-  still-then g (part l h) v w = absurd w
-  still-then g (rest c h) v w = T-both (still? g) (still? h) v w
-  still-then g (nest o c l m h r n) v w = absurd w
+  still-then = then-all (λ g h k. T (still? g) → T (still? h) → T (still? k)) (λ g v w. tt) (λ g v w. v) (λ g h v w. T-both (still? g) (still? h) v w)
 
   still-seq : (g h : Grammar L) → T (still? g) → T (still? h) → T (still? (seq g h))
-  still-seq void h v w = tt
-  still-seq empty h v w = w
-  still-seq (byte c) h v w = absurd v
-  still-seq (f ⨾ g) h v w = still-seq f (seq g h) (T-left (still? f) (still? g) v) (still-seq g h (T-right (still? f) (still? g) v) w)
-  still-seq (f ∣ g) h v w = still-then (f ∣ g) h v w
-  still-seq (star g) h v w = absurd v
-  still-seq (part l g) h v w = absurd v
-  still-seq (rest c g) h v w = still-then (rest c g) h v w
-  still-seq (nest o c l m g r n) h v w = absurd v
-
-  still-or : (g h : Grammar L) → T (still? g) → T (still? h) → T (still? (or-else g h))
-  still-or g void v w = v
-  still-or g empty v w = T-both (still? g) true v w
-  still-or g (byte c) v w = absurd w
-  still-or g (h ⨾ k) v w = T-both (still? g) (still? (h ⨾ k)) v w
-  still-or g (h ∣ k) v w = T-both (still? g) (still? (h ∣ k)) v w
-  still-or g (star h) v w = absurd w
-  still-or g (part l h) v w = absurd w
-  still-or g (rest c h) v w = T-both (still? g) (still? h) v w
-  still-or g (nest o c l m h r n) v w = absurd w
+  still-seq =
+      seq-all (λ g h k. T (still? g) → T (still? h) → T (still? k)) (λ h v w. tt) (λ h v w. w) still-then
+      (λ f g h x y v w. x (T-left (still? f) (still? g) v) (y (T-right (still? f) (still? g) v) w))
 
   still-alt : (g h : Grammar L) → T (still? g) → T (still? h) → T (still? (alt g h))
-  still-alt void h v w = w
-  still-alt empty h v w = still-or empty h v w
-  still-alt (byte c) h v w = absurd v
-  still-alt (f ⨾ g) h v w = still-or (f ⨾ g) h v w
-  still-alt (f ∣ g) h v w = still-or (f ∣ g) h v w
-  still-alt (star g) h v w = absurd v
-  still-alt (part l g) h v w = absurd v
-  still-alt (rest c g) h v w = still-or (rest c g) h v w
-  still-alt (nest o c l m g r n) h v w = absurd v
+  still-alt =
+      alt-all (λ g h k. T (still? g) → T (still? h) → T (still? k)) (λ h v w. w) (λ g v w. v) (λ g h v w. T-both (still? g) (still? h) v w)
 
   still-during : (c : Part L) (g : Grammar L) → T (still? g) → T (still? (during c g))
-  still-during c void w = tt
-  still-during c empty w = w
-  still-during c (byte d) w = w
-  still-during c (f ⨾ g) w = w
-  still-during c (f ∣ g) w = w
-  still-during c (star g) w = w
-  still-during c (part l g) w = w
-  still-during c (rest d g) w = w
-  still-during c (nest o d l m g r n) w = w
+  still-during c = during-all (λ g k. T (still? g) → T (still? k)) (λ w. tt) c (λ g w. w)
 
   pub still-ends : (g : Grammar L) (i : ℕ) → T (still? (ends g i))
   still-ends void i = tt
@@ -305,7 +207,8 @@ module _ {L : Type 0} where
   still-ends (rest c g) i = still-during c (ends g i) (still-ends g i)
   still-ends (nest o c l m g r n) i = tt
 
-  ended : (c : Part L) (i : ℕ) (x : Bool) → (past (c .start) (c .text) ≡ i) ⊎ (T x × (past (c .start) (c .text) ≤ i)) → past (c .start) (c .text) ≤ suc i
+  ended : (c : Part L) (i : ℕ) (x : Bool) → (past (c .start) (c .text) ≡ i) ⊎ (T x × (past (c .start) (c .text) ≤ i))
+      → past (c .start) (c .text) ≤ suc i
   ended c i x (inl e) = omega arith
   ended c i x (inr e) = omega arith
 
@@ -379,9 +282,9 @@ module _ {L : Type 0} where
             (begun-inside (suc i) o c l m g n (deriv g i b) (w .0, begun-deriv g i b (fresh-begun g i (w .0))))),
       )))
 
-  pub begun-after : (g : Grammar L) (i : ℕ) (p : List ℕ) → Begun i g → Begun (past i p) (residual g i p)
-  begun-after g i [] w = w
-  begun-after g i (b ∷ p) w = begun-after (deriv g i b) (suc i) p (begun-deriv g i b w)
+  pub residual-begun : (g : Grammar L) (i : ℕ) (p : List ℕ) → Begun i g → Begun (past i p) (residual g i p)
+  residual-begun g i [] w = w
+  residual-begun g i (b ∷ p) w = residual-begun (deriv g i b) (suc i) p (begun-deriv g i b w)
 
   -- the theorem
   take-more : (c : Part L) (g : Grammar L) (i : ℕ) (t : List ℕ) (ps : List (Part L)) → c .start < i
@@ -400,35 +303,37 @@ module _ {L : Type 0} where
   here h i [] u ps e m = m
   here h i (b ∷ t) u ps e m = absurd (cons≢nil e)
 
-  cut-one : (i : ℕ) (c : Part L) (t : List ℕ) (qs l : List (Part L)) → c .start < i → take (i - c .start) (c .text ++ t) ≡ c .text → parts-before i qs ≡ l → parts-before i (grown c t ∷ qs) ≡ c ∷ l
-  cut-one i c t qs l s e f =
+  before-one : (i : ℕ) (c : Part L) (t : List ℕ) (qs l : List (Part L)) → c .start < i → take (i - c .start) (c .text ++ t) ≡ c .text
+      → parts-before i qs ≡ l → parts-before i (grown c t ∷ qs) ≡ c ∷ l
+  before-one i c t qs l s e f =
       rw (lt-ltb (c .start) i s)
       (ap (λ (x : List ℕ). record { label = c .label; start = c .start; text = x } ∷ parts-before i qs) e ∙ ap (λ (k : List (Part L)). c ∷ k) f)
 
-  pub held-cut : (g : Grammar L) (i : ℕ) (t : List ℕ) (ps : List (Part L)) → Begun i g → T (clear? g) → Parses g i t ps → parts-before i ps ≡ held g
-  held-cut void i t ps w f m = absurd m
-  held-cut empty i t ps w f m = ap (parts-before i) (m .1)
-  held-cut (byte c) i t ps w f m = ap (parts-before i) (m .3)
-  held-cut (g ⨾ h) i t ps (inl w) f m =
-      ap (parts-before i) (m .5) ∙ cut-append i (m .2) (m .3)
-      ∙ ap (λ (l : List (Part L)). l ++ parts-before i (m .3)) (held-cut g i (m .0) (m .2) (w .0) (T-left (clear? g) (clear? h) f) (m .6))
-      ∙ ap (λ (l : List (Part L)). held g ++ l) (fresh-cut h i (past i (m .0)) (m .1) (m .3) (w .1) (past-le i (m .0)) (m .7) ∙ sym (fresh-held h (w .1)))
-  held-cut (g ⨾ h) i t ps (inr w) f m =
-      ap (parts-before i) (m .5) ∙ cut-append i (m .2) (m .3)
-      ∙ ap (λ (l : List (Part L)). l ++ parts-before i (m .3)) (held-cut g i (m .0) (m .2) (w .1) (T-left (clear? g) (clear? h) f) (m .6))
+  pub held-before : (g : Grammar L) (i : ℕ) (t : List ℕ) (ps : List (Part L)) → Begun i g → T (clear? g) → Parses g i t ps
+      → parts-before i ps ≡ held g
+  held-before void i t ps w f m = absurd m
+  held-before empty i t ps w f m = ap (parts-before i) (m .1)
+  held-before (byte c) i t ps w f m = ap (parts-before i) (m .3)
+  held-before (g ⨾ h) i t ps (inl w) f m =
+      ap (parts-before i) (m .5) ∙ before-append i (m .2) (m .3)
+      ∙ ap (λ (l : List (Part L)). l ++ parts-before i (m .3)) (held-before g i (m .0) (m .2) (w .0) (T-left (clear? g) (clear? h) f) (m .6))
+      ∙ ap (λ (l : List (Part L)). held g ++ l) (fresh-before h i (past i (m .0)) (m .1) (m .3) (w .1) (past-le i (m .0)) (m .7) ∙ sym (fresh-held h (w .1)))
+  held-before (g ⨾ h) i t ps (inr w) f m =
+      ap (parts-before i) (m .5) ∙ before-append i (m .2) (m .3)
+      ∙ ap (λ (l : List (Part L)). l ++ parts-before i (m .3)) (held-before g i (m .0) (m .2) (w .1) (T-left (clear? g) (clear? h) f) (m .6))
       ∙ ap (λ (l : List (Part L)). held g ++ l)
-      (held-cut h i (m .1) (m .3) (w .2) (T-right (clear? g) (clear? h) f) (here h i (m .0) (m .1) (m .3) (still-nil g i (m .0) (m .2) (w .0) (m .6)) (m .7)))
-  held-cut (g ∣ h) i t ps w f m =
-      fresh-cut (g ∣ h) i i t ps f (omega arith) m ∙ sym (fresh-held g (T-left (fresh? g) (fresh? h) f))
-  held-cut (star g) i t ps w f m = fresh-cut (star g) i i t ps f (omega arith) m
-  held-cut (part l g) i t ps w f m = fresh-cut (part l g) i i t ps f (omega arith) m
-  held-cut (rest c g) i t ps w f m =
-      ap (parts-before i) (m .1) ∙ cut-one i c t (m .0) (held g) (w .1) (take-more c g i t (m .0) (w .1) (w .2) (m .2)) (held-cut g i t (m .0) (w .0) f (m .2))
-  held-cut (nest o c l m g r n) i t ps w f k =
-      ap (parts-before i) (k .5) ∙ cut-append i (k .2) (k .3)
-      ∙ ap (λ (x : List (Part L)). x ++ parts-before i (k .3)) (held-cut r i (k .0) (k .2) (w .1) (T-right (fresh? g) (clear? r) f) (k .6))
+      (held-before h i (m .1) (m .3) (w .2) (T-right (clear? g) (clear? h) f) (here h i (m .0) (m .1) (m .3) (still-nil g i (m .0) (m .2) (w .0) (m .6)) (m .7)))
+  held-before (g ∣ h) i t ps w f m =
+      fresh-before (g ∣ h) i i t ps f (omega arith) m ∙ sym (fresh-held g (T-left (fresh? g) (fresh? h) f))
+  held-before (star g) i t ps w f m = fresh-before (star g) i i t ps f (omega arith) m
+  held-before (part l g) i t ps w f m = fresh-before (part l g) i i t ps f (omega arith) m
+  held-before (rest c g) i t ps w f m =
+      ap (parts-before i) (m .1) ∙ before-one i c t (m .0) (held g) (w .1) (take-more c g i t (m .0) (w .1) (w .2) (m .2)) (held-before g i t (m .0) (w .0) f (m .2))
+  held-before (nest o c l m g r n) i t ps w f k =
+      ap (parts-before i) (k .5) ∙ before-append i (k .2) (k .3)
+      ∙ ap (λ (x : List (Part L)). x ++ parts-before i (k .3)) (held-before r i (k .0) (k .2) (w .1) (T-right (fresh? g) (clear? r) f) (k .6))
       ∙ ap (λ (x : List (Part L)). held r ++ x)
-      (fresh-nest o c l m i (Parses g) (λ v u qs y z. fresh-cut g i v u qs (w .0) y z) (suc n) (past i (k .0)) (past-le i (k .0)) (k .1) (k .3) (k .7))
+      (fresh-nest o c l m i (Parses g) (λ v u qs y z. fresh-before g i v u qs (w .0) y z) (suc n) (past i (k .0)) (past-le i (k .0)) (k .1) (k .3) (k .7))
       ∙ append-nil (held r)
 
   -- at the end of a text
@@ -438,7 +343,9 @@ module _ {L : Type 0} where
   fresh-end (byte c) i ps f s m = absurd s
   fresh-end (g ⨾ h) i ps f s m =
       let z = seq-nil g h i ps (m .0) (m .1) (m .2) (m .3) (m .4) (m .5) (m .6) (m .7) in
-      rw (z .2, fresh-end g i (z .0) (T-left (fresh? g) (fresh? h) f) (T-left (still? g) (still? h) s) (z .3), fresh-end h i (z .1) (T-right (fresh? g) (fresh? h) f) (T-right (still? g) (still? h) s) (z .4))
+      let first = fresh-end g i (z .0) (T-left (fresh? g) (fresh? h) f) (T-left (still? g) (still? h) s) (z .3) in
+      let second = fresh-end h i (z .1) (T-right (fresh? g) (fresh? h) f) (T-right (still? g) (still? h) s) (z .4) in
+      rw (z .2, first, second)
   fresh-end (g ∣ h) i ps f s (inl m) = fresh-end g i ps (T-left (fresh? g) (fresh? h) f) (T-left (still? g) (still? h) s) m
   fresh-end (g ∣ h) i ps f s (inr m) = fresh-end h i ps (T-right (fresh? g) (fresh? h) f) (T-right (still? g) (still? h) s) m
   fresh-end (star g) i ps f s m = absurd s
@@ -452,7 +359,9 @@ module _ {L : Type 0} where
   held-end (byte c) i ps f s m = absurd s
   held-end (g ⨾ h) i ps f s m =
       let z = seq-nil g h i ps (m .0) (m .1) (m .2) (m .3) (m .4) (m .5) (m .6) (m .7) in
-      rw (z .2, held-end g i (z .0) (T-left (clear? g) (clear? h) f) (T-left (still? g) (still? h) s) (z .3), held-end h i (z .1) (T-right (clear? g) (clear? h) f) (T-right (still? g) (still? h) s) (z .4))
+      let first = held-end g i (z .0) (T-left (clear? g) (clear? h) f) (T-left (still? g) (still? h) s) (z .3) in
+      let second = held-end h i (z .1) (T-right (clear? g) (clear? h) f) (T-right (still? g) (still? h) s) (z .4) in
+      rw (z .2, first, second)
   held-end (g ∣ h) i ps f s m = fresh-end (g ∣ h) i ps f s m ∙ sym (fresh-held g (T-left (fresh? g) (fresh? h) f))
   held-end (star g) i ps f s m = absurd s
   held-end (part l g) i ps f s m = absurd s

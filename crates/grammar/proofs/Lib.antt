@@ -1,8 +1,10 @@
+pub mod Forms
 pub mod Derivative
 pub mod Longest
 pub mod Shapes
 pub mod Held
 pub mod Exact
+pub mod Places
 pub mod OneWay
 pub mod Deterministic
 pub mod Ahead
@@ -20,4 +22,5 @@ pub mod Plain
 pub mod Alike
 pub mod Regroup
 pub mod Values
+pub mod Matching
 pub mod Words

@@ -1,17 +1,17 @@
 -- What is live has a text; a beginning is live just if what is left of the grammar after it is live.
-use Prim.Native.Nat.{ℕ, zero, suc, _+_, _≤_, zero-le, suc-le-suc}
-use native.Mathlib.Nat.{le-of-suc-le-suc, add-zero, add-suc}
+use Prim.Native.Nat.{ℕ, zero, suc, _+_}
 use native.Mathlib.Omega.{arith}
-use mathlib.Core.Path.{_≡_, refl, sym, ap, _∙_}
+use mathlib.Core.Path.{_≡_, refl, _∙_}
 use mathlib.Core.Logic.{_⊎_, inl, inr, _↔_, ⊎-elim}
-use mathlib.Core.Bool.{Bool, true, false, cond, _&&_, _||_}
-use mathlib.Core.List.{List, [], _∷_, _++_, append-assoc, append-nil}
+use mathlib.Core.Bool.{true}
+use mathlib.Core.List.{List, [], _∷_, _++_, append-assoc}
 use lib.Dec.{T, ltb}
-use lib.ListN.{length, take}
-use Rattle.grammar.specs.Grammar.{Class, Part, Grammar, void, empty, byte, _⨾_, _∣_, star, part, rest, nest, Nest, out, closes, Parses, none, past, grown, bytes?, T-left, T-right}
-use Rattle.grammar.specs.Beginnings.{Matches, Live, Longest}
-use Rattle.grammar.specs.helpers.Derivative.{live, nullable, deriv, ends, residual}
-use Rattle.grammar.proofs.Derivative.{T-both, T-or, T-case, seq-nil, no-nest, split-nil, after-means}
+use lib.ListN.{length}
+use Rattle.grammar.specs.Grammar.{Class, Part, Grammar, void, empty, byte, _⨾_, _∣_, star, part, rest, nest, Nest, out}
+use Rattle.grammar.specs.Grammar.{closes, Parses, none, past, grown, bytes?, T-left, T-right}
+use Rattle.grammar.specs.Beginnings.{Live}
+use Rattle.grammar.specs.helpers.Derivative.{live, nullable, deriv, residual}
+use Rattle.grammar.proofs.Derivative.{T-both, T-or, T-case, seq-nil, no-nest, split-nil, residual-means}
 
 bytes-append : (t u : List ℕ) → T (bytes? t) → T (bytes? u) → T (bytes? (t ++ u))
 bytes-append [] u p q = q
@@ -27,9 +27,9 @@ past-snoc i [] b = refl
 past-snoc i (a ∷ s) b = past-snoc (suc i) s b
 
 module _ {L : Type 0} where
-  pub after-snoc : (g : Grammar L) (i : ℕ) (s : List ℕ) (b : ℕ) → residual g i (s ++ b ∷ []) ≡ deriv (residual g i s) (past i s) b
-  after-snoc g i [] b = refl
-  after-snoc g i (a ∷ s) b = after-snoc (deriv g i a) (suc i) s b
+  pub residual-snoc : (g : Grammar L) (i : ℕ) (s : List ℕ) (b : ℕ) → residual g i (s ++ b ∷ []) ≡ deriv (residual g i s) (past i s) b
+  residual-snoc g i [] b = refl
+  residual-snoc g i (a ∷ s) b = residual-snoc (deriv g i a) (suc i) s b
 
   -- `live` is to have a text, `nullable` to have the empty one
   pub live-of : (g : Grammar L) (i : ℕ) (s : List ℕ) (ps : List (Part L)) → Parses g i s ps → T (live g)
@@ -48,16 +48,22 @@ module _ {L : Type 0} where
   Text g i = (t : List ℕ) × (ps : List (Part L)) × T (bytes? t) × Parses g i t ps
 
   -- open levels are closed by so many closing bytes
-  closing : (o c : Class) (l m : L) (P : ℕ → List ℕ → List (Part L) → Type 0) (n i : ℕ) → (t : List ℕ) × (ps : List (Part L)) × T (bytes? t) × Nest o c l m P n i t ps
+  closing : (o c : Class) (l m : L) (P : ℕ → List ℕ → List (Part L) → Type 0) (n i : ℕ)
+      → (t : List ℕ) × (ps : List (Part L)) × T (bytes? t) × Nest o c l m P n i t ps
   closing o c l m P zero i = ([], [], tt, out)
   closing o c l m P (suc n) i =
-      let y = closing o c l m P n (suc i) in
-      (c .some ∷ y .0, record { label = m; start = i; text = c .some ∷ [] } ∷ y .1, T-both (ltb (c .some) 256) (bytes? (y .0)) (c .below (c .some) (c .holds)) (y .2), closes (c .some) (y .0) (y .1) (c .holds) (y .3))
+      let y = closing o c l m P n (suc i) in (
+        c .some ∷ y .0,
+        record { label = m; start = i; text = c .some ∷ [] } ∷ y .1,
+        T-both (ltb (c .some) 256) (bytes? (y .0)) (c .below (c .some) (c .holds)) (y .2),
+        closes (c .some) (y .0) (y .1) (c .holds) (y .3),
+      )
 
   pub text-of : (g : Grammar L) (i : ℕ) → T (live g) → Text g i
   text-of void i p = absurd p
   text-of empty i p = ([], [], tt, (refl, refl))
-  text-of (byte c) i p = (c .some ∷ [], [], T-both (ltb (c .some) 256) true (c .below (c .some) (c .holds)) tt, (c .some, refl, c .holds, refl))
+  text-of (byte c) i p =
+      (c .some ∷ [], [], T-both (ltb (c .some) 256) true (c .below (c .some) (c .holds)) tt, (c .some, refl, c .holds, refl))
   text-of (g ⨾ h) i p =
       let x = text-of g i (T-left (live g) (live h) p) in
       let y = text-of h (past i (x .0)) (T-right (live g) (live h) p) in
@@ -114,11 +120,11 @@ module _ {L : Type 0} where
 
   pub live-computed : (g : Grammar L) (p : List ℕ) → Live g p ↔ T (live (residual g 0 p))
   live-computed g p = (
-    λ v. live-of (residual g 0 p) (past 0 p) (v .0) (v .2 .0) (after-means g 0 p (v .0) (v .2 .0) .0 (v .2 .1)),
-    λ l. let x = text-of (residual g 0 p) (past 0 p) l in (x .0, x .2, (x .1, after-means g 0 p (x .0) (x .1) .1 (x .3))),
+    λ v. live-of (residual g 0 p) (past 0 p) (v .0) (v .2 .0) (residual-means g 0 p (v .0) (v .2 .0) .0 (v .2 .1)),
+    λ l. let x = text-of (residual g 0 p) (past 0 p) l in (x .0, x .2, (x .1, residual-means g 0 p (x .0) (x .1) .1 (x .3))),
   )
 
   -- each beginning of a live beginning is live
   pub live-front : (g : Grammar L) (p q : List ℕ) → Live g (p ++ q) → T (live (residual g 0 p))
   live-front g p q v =
-      live-of (residual g 0 p) (past 0 p) (q ++ v .0) (v .2 .0) (after-means g 0 p (q ++ v .0) (v .2 .0) .0 (rw append-assoc at (v .2 .1)))
+      live-of (residual g 0 p) (past 0 p) (q ++ v .0) (v .2 .0) (residual-means g 0 p (q ++ v .0) (v .2 .0) .0 (rw append-assoc at (v .2 .1)))

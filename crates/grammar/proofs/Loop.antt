@@ -1,16 +1,16 @@
 -- For a reader's loop or scan: what the judgement of a text finds from the place i on, one byte at a time.
-use Prim.Native.Nat.{ℕ, zero, suc, _+_, _≤_, _<_}
+use Prim.Native.Nat.{ℕ, suc, _+_, _≤_, _<_}
 use native.Mathlib.Numerals.{add-one}
 use borrow.Author.Tests.{lt-ltb, le-ltb}
 use mathlib.Core.Path.{_≡_, refl, sym, ap, _∙_}
 use mathlib.Core.Bool.{true, false}
-use mathlib.Core.List.{List, [], _∷_}
+use mathlib.Core.List.{List, []}
 use mathlib.Core.Option.{none, some}
 use lib.ListN.{length, getD, drop, drop-of-length-le}
 use lib.Seq.{drop-cons}
-use Rattle.grammar.specs.Grammar.{Part, Grammar}
+use Rattle.grammar.specs.Grammar.{Grammar}
 use Rattle.grammar.specs.helpers.Derivative.{live, deriv}
-use Rattle.grammar.specs.Reading.{value-limit, Limit, limit-number, Rules, Verdict, refused}
+use Rattle.grammar.specs.Reading.{value-limit, Limit, limit-number, Rules, refused}
 use Rattle.grammar.specs.helpers.Judge.{held, turn, judge, header}
 
 module _ {L A : Type 0} (r : Rules L A) (s : List ℕ) where

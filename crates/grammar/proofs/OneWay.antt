@@ -7,7 +7,8 @@ use mathlib.Core.Bool.{Bool, true, false, cond}
 use mathlib.Core.List.{List, [], _∷_}
 use lib.Dec.{T}
 use Rattle.grammar.specs.Grammar.{Class, Part, Grammar, void, empty, byte, _⨾_, _∣_, star, part, rest, nest, past, grown}
-use Rattle.grammar.specs.helpers.Derivative.{then, seq, alt, or-else, during, inside, closed, ends, deriv, residual}
+use Rattle.grammar.specs.helpers.Derivative.{then, seq, alt, during, inside, closed, ends, deriv, residual}
+use Rattle.grammar.proofs.Forms.{then-all, seq-all, alt-all, during-all, inside-all}
 use Rattle.grammar.specs.helpers.Checks.{fresh?, clear?}
 use Rattle.grammar.proofs.Derivative.{T-both}
 use Rattle.grammar.proofs.Shapes.{alt-void, seq-void}
@@ -61,7 +62,8 @@ module _ {L : Type 0} where
   pub data Parted : Grammar L → Grammar L → Type 0 where
     left : {g h : Grammar L} → g ≡ void → Parted g h
     right : {g h : Grammar L} → h ≡ void → Parted g h
-    on : {g h : Grammar L} → T (fresh? g) → T (fresh? h) → (Null g → ⊥) → (Null h → ⊥) → ((i a : ℕ) → Parted (deriv g i a) (deriv h i a)) → Parted g h
+    on : {g h : Grammar L} → T (fresh? g) → T (fresh? h) → (Null g → ⊥) → (Null h → ⊥) → ((i a : ℕ) → Parted (deriv g i a) (deriv h i a))
+        → Parted g h
 
   -- each byte may be read in one way only, except before a part begins
   abbrev pub Det : Grammar L → Type 0
@@ -106,59 +108,17 @@ module _ {L : Type 0} where
   -- `then`, `alt`, `during` and `inside` are ⨾, ∣, rest and nest, or void stands in them
   module _ (P : Grammar L → Type 0) where
     then-elim : (g h : Grammar L) → P void → (h ≡ empty → P g) → P (g ⨾ h) → P (then g h)
-    then-elim g void u v w = u
-    then-elim g empty u v w = v refl
-    then-elim g (byte c) u v w = w
-    then-elim g (h ⨾ k) u v w = w
-    then-elim g (h ∣ k) u v w = w
-    then-elim g (star h) u v w = w
-    then-elim g (part l h) u v w = w
-    then-elim g (rest c h) u v w = w
-    then-elim g (nest o c l m h r n) u v w = w
-
-    or-elim : (g h : Grammar L) → P g → P (g ∣ h) → P (or-else g h)
-    or-elim g void v w = v
-    or-elim g empty v w = w
-    or-elim g (byte c) v w = w
-    or-elim g (h ⨾ k) v w = w
-    or-elim g (h ∣ k) v w = w
-    or-elim g (star h) v w = w
-    or-elim g (part l h) v w = w
-    or-elim g (rest c h) v w = w
-    or-elim g (nest o c l m h r n) v w = w
+    then-elim = then-all (λ g h k. P void → (h ≡ empty → P g) → P (g ⨾ h) → P k) (λ g u v w. u) (λ g u v w. v refl) (λ g h u v w. w)
 
     pub alt-elim : (g h : Grammar L) → P g → P h → P (g ∣ h) → P (alt g h)
-    alt-elim void h u v w = v
-    alt-elim empty h u v w = or-elim empty h u w
-    alt-elim (byte c) h u v w = or-elim (byte c) h u w
-    alt-elim (g ⨾ k) h u v w = or-elim (g ⨾ k) h u w
-    alt-elim (g ∣ k) h u v w = or-elim (g ∣ k) h u w
-    alt-elim (star g) h u v w = or-elim (star g) h u w
-    alt-elim (part l g) h u v w = or-elim (part l g) h u w
-    alt-elim (rest c g) h u v w = or-elim (rest c g) h u w
-    alt-elim (nest o c l m g r n) h u v w = or-elim (nest o c l m g r n) h u w
+    alt-elim = alt-all (λ g h k. P g → P h → P (g ∣ h) → P k) (λ h u v w. v) (λ g u v w. u) (λ g h u v w. w)
 
     during-elim : (c : Part L) (g : Grammar L) → P void → P (rest c g) → P (during c g)
-    during-elim c void u w = u
-    during-elim c empty u w = w
-    during-elim c (byte d) u w = w
-    during-elim c (g ⨾ h) u w = w
-    during-elim c (g ∣ h) u w = w
-    during-elim c (star g) u w = w
-    during-elim c (part l g) u w = w
-    during-elim c (rest d g) u w = w
-    during-elim c (nest o d l m g r n) u w = w
+    during-elim c = during-all (λ g k. P void → P (rest c g) → P k) (λ u w. u) c (λ g u w. w)
 
-    inside-elim : (o c : Class) (l m : L) (g : Grammar L) (n : ℕ) (r : Grammar L) → P void → P (nest o c l m g r n) → P (inside o c l m g n r)
-    inside-elim o c l m g n void u w = u
-    inside-elim o c l m g n empty u w = w
-    inside-elim o c l m g n (byte d) u w = w
-    inside-elim o c l m g n (f ⨾ h) u w = w
-    inside-elim o c l m g n (f ∣ h) u w = w
-    inside-elim o c l m g n (star h) u w = w
-    inside-elim o c l m g n (part k h) u w = w
-    inside-elim o c l m g n (rest d h) u w = w
-    inside-elim o c l m g n (nest p d j k h r x) u w = w
+    inside-elim : (o c : Class) (l m : L) (g : Grammar L) (n : ℕ) (r : Grammar L) → P void → P (nest o c l m g r n)
+        → P (inside o c l m g n r)
+    inside-elim o c l m g n = inside-all (λ r k. P void → P (nest o c l m g r n) → P k) (λ u w. u) o c l m g n (λ r u w. w)
 
     -- where one side is void
     alt-one : (g h : Grammar L) → (g ≡ void) ⊎ (h ≡ void) → P g → P h → P (alt g h)
@@ -199,36 +159,24 @@ module _ {L : Type 0} where
       (within-all (g ⨾ h))
 
   seq-within : (g h : Grammar L) → Within (seq g h) (g ⨾ h)
-  seq-within void h = within-void (void ⨾ h)
-  seq-within empty h = (λ n. (tt, n), λ b f. inr (tt, f), λ b f. inl f)
-  seq-within (byte c) h = then-within (byte c) h
-  seq-within (f ⨾ g) h =
-      within-trans (seq f (seq g h)) (f ⨾ seq g h) ((f ⨾ g) ⨾ h) (seq-within f (seq g h))
-      (within-trans (f ⨾ seq g h) (f ⨾ (g ⨾ h)) ((f ⨾ g) ⨾ h) (within-last f (seq g h) (g ⨾ h) (seq-within g h)) (within-assoc f g h))
-  seq-within (f ∣ g) h = then-within (f ∣ g) h
-  seq-within (star g) h = then-within (star g) h
-  seq-within (part l g) h = then-within (part l g) h
-  seq-within (rest c g) h = then-within (rest c g) h
-  seq-within (nest o c l m g r n) h = then-within (nest o c l m g r n) h
+  seq-within =
+      seq-all (λ g h k. Within k (g ⨾ h)) (λ h. within-void (void ⨾ h)) (λ h. (λ n. (tt, n), λ b f. inr (tt, f), λ b f. inl f)) then-within
+      (λ f g h x y.
+      within-trans (seq f (seq g h)) (f ⨾ seq g h) ((f ⨾ g) ⨾ h) x
+      (within-trans (f ⨾ seq g h) (f ⨾ (g ⨾ h)) ((f ⨾ g) ⨾ h) (within-last f (seq g h) (g ⨾ h) y) (within-assoc f g h)))
 
   det-then : (g h : Grammar L) → Det (g ⨾ h) → Det (then g h)
   det-then g h d = then-elim Det g h tt (λ e. d .0) d
 
   det-seq : (g h : Grammar L) → Det (g ⨾ h) → Det (seq g h)
-  det-seq void h d = tt
-  det-seq empty h d = d .1
-  det-seq (byte c) h d = det-then (byte c) h d
-  det-seq (f ⨾ g) h d =
-      det-seq f (seq g h) (
+  det-seq =
+      seq-all (λ g h k. Det (g ⨾ h) → Det k) (λ h d. tt) (λ h d. d .1) det-then
+      (λ f g h x y d.
+      x (
         d .0 .0,
-        det-seq g h (d .0 .1, d .1, λ b x. d .2 b (inl x)),
-        λ b x y. ⊎-elim (λ z. d .0 .2 b x z) (λ z. d .2 b (inr (z .0, x)) (z .1)) (seq-within g h .1 b y),
-      )
-  det-seq (f ∣ g) h d = det-then (f ∣ g) h d
-  det-seq (star g) h d = det-then (star g) h d
-  det-seq (part l g) h d = det-then (part l g) h d
-  det-seq (rest c g) h d = det-then (rest c g) h d
-  det-seq (nest o c l m g r n) h d = det-then (nest o c l m g r n) h d
+        y (d .0 .1, d .1, λ b z. d .2 b (inl z)),
+        λ b z w. ⊎-elim (λ a. d .0 .2 b z a) (λ a. d .2 b (inr (a .0, z)) (a .1)) (seq-within g h .1 b w),
+      ))
 
   -- ## The empty text: no byte
   abbrev Quiet : Grammar L → Type 0
@@ -323,7 +271,13 @@ module _ {L : Type 0} where
       turn-void : ((deriv g i b ≡ void) ⊎ First g b) → (alt up (alt down items) ≡ void) ⊎ Turns o c g b
       turn-void f =
           ⊎-elim
-          (λ p. ⊎-elim (λ q. ⊎-elim (λ r. inl (alt-gone up (alt down items) p (alt-gone down items q (inside-none o c l m g n (deriv g i b) r)))) (λ x. inr (inr (inr x))) f) (λ x. inr (inr (inl x))) down-void)
+          (λ p.
+          ⊎-elim
+          (λ q.
+          ⊎-elim
+          (λ r. inl (alt-gone up (alt down items) p (alt-gone down items q (inside-none o c l m g n (deriv g i b) r))))
+          (λ x. inr (inr (inr x))) f)
+          (λ x. inr (inr (inl x))) down-void)
           (λ x. inr (inl x)) up-void
 
     pub deriv-void : (g : Grammar L) → (deriv g i b ≡ void) ⊎ First g b

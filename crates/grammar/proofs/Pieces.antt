@@ -2,13 +2,13 @@
 use Prim.Native.Nat.{ℕ, _+_, _-_, _≤_}
 use native.Mathlib.Omega.{arith}
 use mathlib.Core.Path.{_≡_, refl, sym, ap, _∙_}
-use mathlib.Core.List.{List, [], _∷_, _++_}
+use mathlib.Core.List.{List, _++_}
 use lib.Dec.{T}
 use lib.ListN.{length, take, drop, length-append, length-drop}
 use lib.Seq.{take-at, drop-at, length-take-le}
-use Rattle.grammar.specs.Grammar.{Part, Grammar, Parses}
+use Rattle.grammar.specs.Grammar.{Part, Parses}
 use Rattle.grammar.specs.helpers.Derivative.{live}
-use Rattle.grammar.specs.Reading.{Rules, Verdict, value, refused, Answers, too-long, malformed, breaks, faulty, reads}
+use Rattle.grammar.specs.Reading.{Rules, Verdict, value, Answers, too-long, malformed, breaks, faulty, reads}
 use Rattle.grammar.specs.helpers.Judge.{header}
 use Rattle.grammar.specs.helpers.Checks.{fresh?}
 use Rattle.grammar.specs.helpers.Scans.{slice}

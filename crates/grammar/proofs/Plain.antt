@@ -2,7 +2,7 @@
 use Prim.Native.Nat.{ℕ}
 use mathlib.Core.Path.{_≡_, refl, sym, ap, ap₂, subst, _∙_}
 use mathlib.Core.List.{List, [], _∷_, _++_, append-nil}
-use mathlib.Core.Logic.{_⊎_, inl, inr}
+use mathlib.Core.Logic.{inl, inr}
 use Rattle.grammar.specs.Grammar.{Class, Part, Grammar, empty, byte, _⨾_, _∣_, star, part, Parses, Many, none, more, past}
 
 module _ {L : Type 0} where
@@ -33,12 +33,14 @@ module _ {L : Type 0} where
   plain-star g f i s ps p = many-plain g f i s ps p
 
   -- the parts of g behind a text of a plain grammar, and before one; a part of a plain text
-  pub behind-plain : (g h : Grammar L) → Plain g → (i : ℕ) (s : List ℕ) (ps : List (Part L)) → Parses (g ⨾ h) i s ps → (j : ℕ) × (u : List ℕ) × Parses h j u ps
+  pub behind-plain : (g h : Grammar L) → Plain g → (i : ℕ) (s : List ℕ) (ps : List (Part L)) → Parses (g ⨾ h) i s ps
+      → (j : ℕ) × (u : List ℕ) × Parses h j u ps
   behind-plain g h f i s ps p =
       let e : p .3 ≡ ps = sym (p .5 ∙ ap (λ (x : List (Part L)). x ++ p .3) (f i (p .0) (p .2) (p .6))) in
       (past i (p .0), p .1, subst (Parses h (past i (p .0)) (p .1)) e (p .7))
 
-  pub before-plain : (g h : Grammar L) → Plain h → (i : ℕ) (s : List ℕ) (ps : List (Part L)) → Parses (g ⨾ h) i s ps → (t : List ℕ) × Parses g i t ps
+  pub before-plain : (g h : Grammar L) → Plain h → (i : ℕ) (s : List ℕ) (ps : List (Part L)) → Parses (g ⨾ h) i s ps
+      → (t : List ℕ) × Parses g i t ps
   before-plain g h f i s ps p =
       let e : p .2 ≡ ps = sym (p .5 ∙ ap (λ (x : List (Part L)). p .2 ++ x) (f (past i (p .0)) (p .1) (p .3) (p .7)) ∙ append-nil (p .2)) in
       (p .0, subst (Parses g i (p .0)) e (p .6))

@@ -4,14 +4,14 @@ use native.Mathlib.Omega.{arith}
 use borrow.Author.Tests.{ltb-true, ltb-false}
 use mathlib.Core.Path.{_≡_, refl, sym, ap, subst, _∙_}
 use mathlib.Core.Bool.{Bool, true, false, cond}
-use mathlib.Core.List.{List, [], _∷_, _++_, append-nil, append-assoc}
+use mathlib.Core.List.{List, [], _∷_, _++_, append-assoc}
 use lib.Dec.{T, ltb}
 use lib.ListN.{length, take, length-append}
 use lib.Seq.{take-at, take-append-add}
 use Rattle.grammar.specs.Grammar.{Grammar, past}
 use Rattle.grammar.specs.Beginnings.{Live, Longest}
 use Rattle.grammar.specs.helpers.Derivative.{live, deriv, residual, reach}
-use Rattle.grammar.proofs.Longest.{after-snoc, past-snoc, live-computed, live-front}
+use Rattle.grammar.proofs.Longest.{residual-snoc, past-snoc, live-computed, live-front}
 
 module _ {L : Type 0} (g : Grammar L) (s : List ℕ) where
   -- p is live, and no beginning that is longer
@@ -28,7 +28,8 @@ module _ {L : Type 0} (g : Grammar L) (s : List ℕ) where
       go m h v false d = ltb-false (length p) m d
 
   -- a byte that leaves nothing
-  no-longer : (p : List ℕ) (b : ℕ) (t : List ℕ) → s ≡ p ++ (b ∷ t) → live (residual g 0 (p ++ b ∷ [])) ≡ false → (m : ℕ) → length p < m → m ≤ length s
+  no-longer : (p : List ℕ) (b : ℕ) (t : List ℕ) → s ≡ p ++ (b ∷ t) → live (residual g 0 (p ++ b ∷ [])) ≡ false → (m : ℕ) → length p < m
+      → m ≤ length s
       → Live g (take m s) → ⊥
   no-longer p b t e d m h k v = rw d at (live-front g on (take (m - suc (length p)) t) (rw beyond at v))
     where
@@ -58,10 +59,10 @@ module _ {L : Type 0} (g : Grammar L) (s : List ℕ) where
           ≡ length p + suc (reach (deriv (residual g 0 p) (past 0 p) b) (suc (past 0 p)) t) = omega (arith, length-append p (b ∷ [])) in
           subst (Longest g s) z
           (subst (λ (n : ℕ). Longest g s (length (p ++ b ∷ []) + reach (deriv (residual g 0 p) (past 0 p) b) n t)) (past-snoc 0 p b)
-          (subst (λ (h : Grammar L). Longest g s (length (p ++ b ∷ []) + reach h (past 0 (p ++ b ∷ [])) t)) (after-snoc g 0 p b) (r (rw (after-snoc g 0 p b, d) tt))))
+          (subst (λ (h : Grammar L). Longest g s (length (p ++ b ∷ []) + reach h (past 0 (p ++ b ∷ [])) t)) (residual-snoc g 0 p b) (r (rw (residual-snoc g 0 p b, d) tt))))
       go false d r =
           let z : length p ≡ length p + 0 = omega arith in
-          subst (Longest g s) z (stays p (b ∷ t) e l (no-longer p b t e (ap live (after-snoc g 0 p b) ∙ d)))
+          subst (Longest g s) z (stays p (b ∷ t) e l (no-longer p b t e (ap live (residual-snoc g 0 p b) ∙ d)))
 
   pub reach-longest : T (live g) → Longest g s (reach g 0 s)
   reach-longest l =

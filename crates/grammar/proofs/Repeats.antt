@@ -2,7 +2,7 @@
 use Prim.Native.Nat.{ℕ, zero, suc, _+_, _-_, _≤_, _<_}
 use native.Mathlib.Omega.{arith}
 use mathlib.Core.Path.{_≡_, refl, sym, ap, subst, _∙_}
-use mathlib.Core.Bool.{Bool, true, false, cond}
+use mathlib.Core.Bool.{Bool, true, false}
 use mathlib.Core.List.{List, [], _∷_, _++_, append-nil}
 use mathlib.Core.Option.{none}
 use lib.Dec.{ltb}
@@ -20,7 +20,8 @@ use Rattle.grammar.proofs.Loop.{judge-end}
 use Rattle.grammar.proofs.Scans.{Run, slice-none, slice-snoc, part-begins, part-goes-on, part-ends, part-fails, part-cut-off}
 
 -- the text ends where the rest of the grammar may be empty
-pub may-end : {L A : Type 0} (r : Rules L A) (s : List ℕ) (cs : List (Part L)) (g : Grammar L) (i : ℕ) → length s ≤ i → nullable g ≡ true → ends g i ≡ empty
+pub may-end : {L A : Type 0} (r : Rules L A) (s : List ℕ) (cs : List (Part L)) (g : Grammar L) (i : ℕ) → length s ≤ i → nullable g ≡ true
+    → ends g i ≡ empty
     → from r s (ahead cs g) i ≡ finished r cs
 may-end r s cs g i at n e =
     judge-end r s (ahead cs g) i at ∙ rw (ahead-nullable cs g ∙ n, ahead-ends cs g i, e, ahead-held cs empty refl, append-nil cs)

@@ -2,7 +2,6 @@
 -- `ahead cs g` is g behind the parts cs.
 use Prim.Native.Nat.{ℕ, zero, suc, _+_, _-_, _≤_, _<_}
 use native.Mathlib.Omega.{arith}
-use native.Mathlib.Numerals.{add-one}
 use mathlib.Core.Path.{_≡_, refl, sym, ap, subst, _∙_}
 use mathlib.Core.Bool.{Bool, true, false, cond, _&&_, true≢false}
 use mathlib.Core.List.{List, [], _∷_, _++_, append-nil}
@@ -13,11 +12,12 @@ use lib.Seq.{drop-cons, take-suc, getD-drop}
 use borrow.Author.Tests.{ltb-true, ltb-false}
 use Rattle.grammar.specs.Grammar.{Class, Part, Grammar, void, empty, byte, _⨾_, _∣_, star, part, rest, nest, plus, grown}
 use Rattle.grammar.specs.helpers.Derivative.{live, nullable, deriv, ends, then, seq, alt, during}
-use Rattle.grammar.specs.Reading.{Limit, limit-number, Rules, Verdict, refused}
-use Rattle.grammar.specs.helpers.Judge.{held, finished, judge}
+use Rattle.grammar.specs.Reading.{Limit, limit-number, Rules, refused}
+use Rattle.grammar.specs.helpers.Judge.{held, finished}
 use Rattle.grammar.specs.helpers.Checks.{ahead}
 use Rattle.grammar.specs.helpers.Scans.{slice, from}
-use Rattle.grammar.proofs.Ahead.{ahead-deriv, ahead-ends, ahead-void, ahead-one, ahead-live, ahead-nullable, ahead-held}
+use Rattle.grammar.proofs.Forms.{during-all}
+use Rattle.grammar.proofs.Ahead.{ahead-deriv, ahead-ends, ahead-one, ahead-live, ahead-nullable, ahead-held}
 use Rattle.grammar.proofs.Shapes.{alt-void, seq-void, byte-step}
 use Rattle.grammar.proofs.Loop.{judge-end, judge-dead, judge-next, judge-broken}
 
@@ -29,26 +29,10 @@ module _ {L : Type 0} where
   -- ## What `then`, `seq` and `during` come to
 
   during-live : (p : Part L) (g : Grammar L) → live g ≡ true → during p g ≡ rest p g
-  during-live p void l = absurd (true≢false (sym l))
-  during-live p empty l = refl
-  during-live p (byte c) l = refl
-  during-live p (f ⨾ g) l = refl
-  during-live p (f ∣ g) l = refl
-  during-live p (star g) l = refl
-  during-live p (part k g) l = refl
-  during-live p (rest c g) l = refl
-  during-live p (nest o c k m g r n) l = refl
+  during-live p = during-all (λ g k. live g ≡ true → k ≡ rest p g) (λ l. absurd (true≢false (sym l))) p (λ g l. refl)
 
-  during-alone : (p : Part L) (g : Grammar L) → seq (during p g) empty ≡ during p g
-  during-alone p void = refl
-  during-alone p empty = refl
-  during-alone p (byte c) = refl
-  during-alone p (f ⨾ g) = refl
-  during-alone p (f ∣ g) = refl
-  during-alone p (star g) = refl
-  during-alone p (part k g) = refl
-  during-alone p (rest c g) = refl
-  during-alone p (nest o c k m g r n) = refl
+  pub during-alone : (p : Part L) (g : Grammar L) → seq (during p g) empty ≡ during p g
+  during-alone p = during-all (λ g k. seq k empty ≡ k) refl p (λ g. refl)
 
   -- `then x g` is `x ⨾ g` but where g is void or empty
   pub data Follows (g : Grammar L) : Type 0 where
@@ -227,7 +211,8 @@ module _ {L A : Type 0} (r : Rules L A) (s : List ℕ) where
       pub goes-on : live h ≡ true → r .limit i (cs ++ held h) ≡ none → from r s (ahead cs g) i ≡ from r s (ahead cs h) (i + 1)
       goes-on l q = judge-next r s (ahead cs g) i (ahead cs h) at left (ahead-live cs h ∙ l) (limits l ∙ q)
 
-      pub breaks-off : {x : Limit} → live h ≡ true → r .limit i (cs ++ held h) ≡ some x → from r s (ahead cs g) i ≡ refused (limit-number x) i
+      pub breaks-off : {x : Limit} → live h ≡ true → r .limit i (cs ++ held h) ≡ some x
+          → from r s (ahead cs g) i ≡ refused (limit-number x) i
       breaks-off l q = judge-broken r s (ahead cs g) i (ahead cs h) at left (ahead-live cs h ∙ l) (limits l ∙ q)
 
     pub stops-at : i < length s → deriv g i (getD s i 0) ≡ void → from r s (ahead cs g) i ≡ refused 1 i
@@ -291,7 +276,8 @@ module _ {L A : Type 0} (r : Rules L A) (s : List ℕ) where
             (ap (r .limit i) holds ∙ q)
 
       -- a byte that is neither one of the part nor may end it; the end
-      pub part-fails : i < length s → deriv x i (getD s i 0) ≡ void → ends x i ≡ void → from r s (ahead cs (then (rest p x) g)) i ≡ refused 1 i
+      pub part-fails : i < length s → deriv x i (getD s i 0) ≡ void → ends x i ≡ void
+          → from r s (ahead cs (then (rest p x) g)) i ≡ refused 1 i
       part-fails at d e = stops-at cs (then (rest p x) g) i at (rest-neither p x g l i (getD s i 0) d e)
 
       pub part-cut-off : length s ≤ i → nullable x ≡ false → from r s (ahead cs (then (rest p x) g)) i ≡ refused 1 i
@@ -317,7 +303,8 @@ module _ {L A : Type 0} (r : Rules L A) (s : List ℕ) where
     other-dead : (j b : ℕ) (p : Part L) → c .has b ≡ true → seq (during p (ends {L = L} (star (byte c)) j)) (deriv g j b) ≡ void
     other-dead j b p e = rw (apart j b e)
 
-    step-in : (j : ℕ) → i ≤ j → j < e → r .limit j (cs ++ upto (j + 1) ∷ []) ≡ none → from r s (in-run j) j ≡ from r s (in-run (j + 1)) (j + 1)
+    step-in : (j : ℕ) → i ≤ j → j < e → r .limit j (cs ++ upto (j + 1) ∷ []) ≡ none
+        → from r s (in-run j) j ≡ from r s (in-run (j + 1)) (j + 1)
     step-in j a b q =
         let at : j < length s = omega (arith, run .within) in
         let f = run .inside j a b in
@@ -325,7 +312,8 @@ module _ {L A : Type 0} (r : Rules L A) (s : List ℕ) where
         (ap (λ (p : Part L). r .limit j (cs ++ p ∷ [])) (grown-on j a at) ∙ q)
         ∙ ap (λ (p : Part L). from r s (ahead cs (then (rest p (star (byte c))) g)) (j + 1)) (grown-on j a at)
 
-    walk : (m j t : ℕ) → j + m ≡ t → i ≤ j → t ≤ e → ((n : ℕ) → j ≤ n → n < t → r .limit n (cs ++ upto (n + 1) ∷ []) ≡ none) → from r s (in-run j) j ≡ from r s (in-run t) t
+    walk : (m j t : ℕ) → j + m ≡ t → i ≤ j → t ≤ e → ((n : ℕ) → j ≤ n → n < t → r .limit n (cs ++ upto (n + 1) ∷ []) ≡ none)
+        → from r s (in-run j) j ≡ from r s (in-run t) t
     walk zero j t a b d q =
         let f : j ≡ t = omega arith in
         ap (λ (n : ℕ). from r s (in-run n) n) f
@@ -337,7 +325,8 @@ module _ {L A : Type 0} (r : Rules L A) (s : List ℕ) where
     run-over = part-ends cs g l (upto e) (star (byte c)) e (λ at. rw (run .stops at)) refl refl
 
     -- a limit that the byte at t breaks
-    break-in : {z : Limit} (t : ℕ) → i ≤ t → t < e → r .limit t (cs ++ upto (t + 1) ∷ []) ≡ some z → from r s (in-run t) t ≡ refused (limit-number z) t
+    break-in : {z : Limit} (t : ℕ) → i ≤ t → t < e → r .limit t (cs ++ upto (t + 1) ∷ []) ≡ some z
+        → from r s (in-run t) t ≡ refused (limit-number z) t
     break-in t a b q =
         let at : t < length s = omega (arith, run .within) in
         let f = run .inside t a b in
@@ -380,7 +369,8 @@ module _ {L A : Type 0} (r : Rules L A) (s : List ℕ) where
       plus-not : (b : ℕ) → c .has b ≡ false → deriv {L = L} (plus (byte c)) i b ≡ void
       plus-not b f = rw f
 
-      enters : i < e → r .limit i (cs ++ upto (i + 1) ∷ []) ≡ none → from r s (ahead cs (then (part k (plus (byte c))) g)) i ≡ from r s (in-run (i + 1)) (i + 1)
+      enters : i < e → r .limit i (cs ++ upto (i + 1) ∷ []) ≡ none
+          → from r s (ahead cs (then (part k (plus (byte c))) g)) i ≡ from r s (in-run (i + 1)) (i + 1)
       enters a q =
           let at : i < length s = omega (arith, run .within) in
           let f = run .inside i (omega arith) a in
@@ -418,7 +408,8 @@ module _ {L A : Type 0} (r : Rules L A) (s : List ℕ) where
               let v : t ≡ i = omega (arith, ltb-false i t d) in
               subst (λ (n : ℕ). from r s (ahead cs (then (part k (plus (byte c))) g)) i ≡ refused (limit-number z) n) (sym v) (here (rw v at f))
             where
-              here : r .limit i (cs ++ upto (i + 1) ∷ []) ≡ some z → from r s (ahead cs (then (part k (plus (byte c))) g)) i ≡ refused (limit-number z) i
+              here : r .limit i (cs ++ upto (i + 1) ∷ []) ≡ some z
+                  → from r s (ahead cs (then (part k (plus (byte c))) g)) i ≡ refused (limit-number z) i
               here w =
                   let at : i < length s = omega (arith, run .within) in
                   let u = run .inside i (omega arith) (omega arith) in
@@ -453,7 +444,8 @@ module _ {L A : Type 0} (r : Rules L A) (s : List ℕ) where
   -- ## The end
 
   pub ends-well : (cs : List (Part L)) (i : ℕ) → length s ≤ i → from r s (ahead cs empty) i ≡ finished r cs
-  ends-well cs i at = judge-end r s (ahead cs empty) i at ∙ rw (ahead-nullable cs empty, ahead-ends cs empty i, ahead-held cs empty refl, append-nil cs)
+  ends-well cs i at =
+      judge-end r s (ahead cs empty) i at ∙ rw (ahead-nullable cs empty, ahead-ends cs empty i, ahead-held cs empty refl, append-nil cs)
 
   pub goes-too-far : (cs : List (Part L)) (i : ℕ) → i < length s → from r s (ahead cs empty) i ≡ refused 1 i
   goes-too-far cs i at = stops-at cs empty i at refl

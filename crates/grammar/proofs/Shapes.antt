@@ -1,10 +1,10 @@
 -- What a byte leaves of the shapes that readers are made of.
 use Prim.Native.Nat.{ℕ, suc}
-use mathlib.Core.Path.{_≡_, refl, sym, ap, _∙_}
+use mathlib.Core.Path.{_≡_, refl}
 use mathlib.Core.Bool.{Bool, true, false, cond}
-use mathlib.Core.List.{List, [], _∷_, _++_}
+use mathlib.Core.List.{List, [], _∷_}
 use lib.Dec.{T}
-use Rattle.grammar.specs.Grammar.{Class, Part, Grammar, void, empty, byte, _⨾_, _∣_, star, part, rest, nest, plus, opt, past, grown}
+use Rattle.grammar.specs.Grammar.{Class, Part, Grammar, void, empty, byte, _⨾_, _∣_, star, part, rest, nest, plus, past, grown}
 use Rattle.grammar.specs.helpers.Derivative.{deriv, ends, residual, then, seq, alt, during}
 use Rattle.grammar.specs.helpers.Checks.{clear?}
 
@@ -51,11 +51,13 @@ module _ {L : Type 0} where
         p : Part L
         p = record { label = l; start = i; text = b ∷ [] }
 
-        go : (t : Bool) → alt (seq (during p (alt (seq (cond t empty void) (star (byte c))) void)) g) void ≡ cond t (rest p (star (byte c)) ⨾ g) void
+        go : (t : Bool)
+            → alt (seq (during p (alt (seq (cond t empty void) (star (byte c))) void)) g) void ≡ cond t (rest p (star (byte c)) ⨾ g) void
         go true = rw (solid (rest p (star (byte c))))
         go false = refl
 
-    pub part-last : (l : L) → deriv (part l (plus (byte c))) i b ≡ cond (c .has b) (rest (record { label = l; start = i; text = b ∷ [] }) (star (byte c))) void
+    pub part-last : (l : L)
+        → deriv (part l (plus (byte c))) i b ≡ cond (c .has b) (rest (record { label = l; start = i; text = b ∷ [] }) (star (byte c))) void
     part-last l = go (c .has b)
       where
         p : Part L
@@ -79,7 +81,8 @@ module _ {L : Type 0} where
     pub rest-last : (p : Part L) → deriv (rest p (star (byte c))) i b ≡ cond (c .has b) (rest (grown p (b ∷ [])) (star (byte c))) void
     rest-last p = go (c .has b)
       where
-        go : (t : Bool) → during (grown p (b ∷ [])) (seq (cond t empty void) (star (byte c))) ≡ cond t (rest (grown p (b ∷ [])) (star (byte c))) void
+        go : (t : Bool)
+            → during (grown p (b ∷ [])) (seq (cond t empty void) (star (byte c))) ≡ cond t (rest (grown p (b ∷ [])) (star (byte c))) void
         go true = refl
         go false = refl
 

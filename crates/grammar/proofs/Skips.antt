@@ -1,11 +1,11 @@
 -- The bridge for a run of bytes of a class that is no part, as blanks are.
 use Prim.Native.Nat.{ℕ, zero, suc, _+_, _-_, _≤_, _<_}
 use native.Mathlib.Omega.{arith}
-use mathlib.Core.Path.{_≡_, refl, sym, ap, _∙_}
+use mathlib.Core.Path.{_≡_, refl, ap, _∙_}
 use mathlib.Core.Bool.{Bool, true, false, cond}
-use mathlib.Core.List.{List, [], _∷_, _++_, append-nil}
+use mathlib.Core.List.{List, [], _++_, append-nil}
 use mathlib.Core.Option.{none}
-use lib.ListN.{length, getD}
+use lib.ListN.{getD}
 use Rattle.grammar.specs.Grammar.{Class, Part, Grammar, void, empty, byte, star}
 use Rattle.grammar.specs.helpers.Derivative.{live, nullable, deriv, ends, then, seq, alt}
 use Rattle.grammar.specs.Reading.{Rules}
@@ -32,7 +32,8 @@ module _ {L A : Type 0} (r : Rules L A) (s : List ℕ) (cs : List (Part L)) (c :
       go (blank z) = rw z (alone (c .has b))
       go (solid z) = rw (z (star (byte c)))
 
-  skip-in : (j : ℕ) → i ≤ j → j < e → r .limit j cs ≡ none → from r s (ahead cs (then (star (byte c)) g)) j ≡ from r s (ahead cs (then (star (byte c)) g)) (j + 1)
+  skip-in : (j : ℕ) → i ≤ j → j < e → r .limit j cs ≡ none
+      → from r s (ahead cs (then (star (byte c)) g)) j ≡ from r s (ahead cs (then (star (byte c)) g)) (j + 1)
   skip-in j a b q =
       let f = run .inside j a b in
       goes-on r s cs (then (star (byte c)) g) j (then (star (byte c)) g) (omega (arith, run .within))

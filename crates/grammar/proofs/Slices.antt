@@ -1,15 +1,16 @@
 -- The parts of a text are pieces of it, at their places; and so are the parts of a beginning.
-use Prim.Native.Nat.{ℕ, zero, suc, _+_, _-_, _≤_, _<_}
+use Prim.Native.Nat.{ℕ, zero, suc, _+_, _-_, _<_}
 use native.Mathlib.Omega.{arith}
 use borrow.Author.Tests.{ltb-true}
 use mathlib.Core.Path.{_≡_, refl, sym, ap, _∙_}
-use mathlib.Core.Logic.{_⊎_, inl, inr}
+use mathlib.Core.Logic.{inl, inr}
 use mathlib.Core.Bool.{Bool, true, false, cond}
 use mathlib.Core.List.{List, [], _∷_, _++_, append-assoc, append-nil}
 use lib.Dec.{T, ltb}
 use lib.ListN.{length, take}
 use lib.Seq.{take-append-add, take-at}
-use Rattle.grammar.specs.Grammar.{Class, Part, Grammar, void, empty, byte, _⨾_, _∣_, star, part, rest, nest, Nest, out, item, opens, closes, Parses, Many, none, more, past, T-left, T-right}
+use Rattle.grammar.specs.Grammar.{Class, Part, Grammar, void, empty, byte, _⨾_, _∣_, star, part, rest, nest, Nest, out}
+use Rattle.grammar.specs.Grammar.{item, opens, closes, Parses, Many, none, more, past, T-left, T-right}
 use Rattle.grammar.specs.Reading.{Rules, parts-before, SoFar}
 use Rattle.grammar.specs.helpers.Checks.{fresh?}
 use Rattle.grammar.specs.helpers.Slices.{Slice, Slices}
@@ -53,14 +54,17 @@ module _ {L : Type 0} where
       slices-both i (b ∷ (t ++ u)) qs rs (slices-left i (b ∷ t) u qs (f i (b ∷ t) qs m))
       (slices-right i (b ∷ t) u rs (slices-many P f (past (suc i) t) u rs n))
 
-  slices-nest : (o c : Class) (l m : L) (P : ℕ → List ℕ → List (Part L) → Type 0) → ((j : ℕ) (t : List ℕ) (qs : List (Part L)) → P j t qs → Slices j t qs)
+  slices-nest : (o c : Class) (l m : L) (P : ℕ → List ℕ → List (Part L) → Type 0)
+      → ((j : ℕ) (t : List ℕ) (qs : List (Part L)) → P j t qs → Slices j t qs)
       → (n i : ℕ) (s : List ℕ) (ps : List (Part L)) → Nest o c l m P n i s ps → Slices i s ps
   slices-nest o c l m P f n i s ps out = tt
   slices-nest o c l m P f n i s ps (item {n = w} b t u qs rs p k) =
       slices-both i (b ∷ (t ++ u)) qs rs (slices-left i (b ∷ t) u qs (f i (b ∷ t) qs p))
       (slices-right i (b ∷ t) u rs (slices-nest o c l m P f (suc w) (past (suc i) t) u rs k))
-  slices-nest o c l m P f n i s ps (opens {n = w} b u qs p k) = (([], u, refl, refl), slices-right i (b ∷ []) u qs (slices-nest o c l m P f (suc (suc w)) (suc i) u qs k))
-  slices-nest o c l m P f n i s ps (closes {n = w} b u qs p k) = (([], u, refl, refl), slices-right i (b ∷ []) u qs (slices-nest o c l m P f w (suc i) u qs k))
+  slices-nest o c l m P f n i s ps (opens {n = w} b u qs p k) =
+      (([], u, refl, refl), slices-right i (b ∷ []) u qs (slices-nest o c l m P f (suc (suc w)) (suc i) u qs k))
+  slices-nest o c l m P f n i s ps (closes {n = w} b u qs p k) =
+      (([], u, refl, refl), slices-right i (b ∷ []) u qs (slices-nest o c l m P f w (suc i) u qs k))
 
   pub slices : (g : Grammar L) (i : ℕ) (s : List ℕ) (ps : List (Part L)) → T (fresh? g) → Parses g i s ps → Slices i s ps
   slices void i s ps f m = absurd m
@@ -105,5 +109,6 @@ module _ {L : Type 0} where
       go true e r = (begun-slice p t c (ltb-true (c .start) (length p) e) (v .0), r)
       go false e r = r
 
-  pub so-far-slices : {A : Type 0} (r : Rules L A) (p : List ℕ) (ps : List (Part L)) → T (fresh? (r .grammar)) → SoFar r p ps → Slices 0 p ps
+  pub so-far-slices : {A : Type 0} (r : Rules L A) (p : List ℕ) (ps : List (Part L)) → T (fresh? (r .grammar)) → SoFar r p ps
+      → Slices 0 p ps
   so-far-slices r p ps f v = rw (v .4) (cut-slices p (v .0) (v .1) (slices (r .grammar) 0 (p ++ v .0) (v .1) f (v .3)))

@@ -1,24 +1,27 @@
 -- The law of a choice among words of one length: which of them stands in the text, or how many bytes of one do.
-use Prim.Native.Nat.{ℕ, zero, suc, _+_, _≤_, _<_}
+use Prim.Native.Nat.{ℕ, zero, suc, _+_, _<_}
 use native.Mathlib.Omega.{arith}
 use native.Mathlib.Numerals.{add-one}
 use borrow.Author.Tests.{ltb-true, ltb-false, eqb-true}
 use mathlib.Core.Path.{_≡_, refl, sym, ap, subst, _∙_}
 use mathlib.Core.Bool.{Bool, true, false, cond, _&&_, not, true≢false}
-use mathlib.Core.List.{List, [], _∷_, _++_, append-nil}
+use mathlib.Core.List.{List, [], _∷_, _++_}
 use mathlib.Core.Option.{Option, none, some}
 use lib.Dec.{T, ltb, eqb}
 use lib.ListN.{length, getD, drop, drop-of-length-le}
 use lib.Seq.{drop-cons}
-use Rattle.grammar.specs.Grammar.{Class, Part, Grammar, void, empty, byte, _⨾_, _∣_, star, part, rest, nest, just, lit, bytes?, T-left, T-right}
-use Rattle.grammar.specs.helpers.Derivative.{live, nullable, deriv, ends, then, seq, alt, or-else}
+use Rattle.grammar.specs.Grammar.{Class, Part, Grammar, void, empty, byte, _⨾_, _∣_, star, part, rest, nest, just, lit}
+use Rattle.grammar.specs.Grammar.{bytes?, T-left, T-right}
+use Rattle.grammar.specs.helpers.Derivative.{live, nullable, deriv, ends, then, seq, alt}
 use Rattle.grammar.specs.Reading.{Rules, refused}
 use Rattle.grammar.specs.helpers.Judge.{held}
 use Rattle.grammar.specs.helpers.Checks.{ahead}
 use Rattle.grammar.specs.helpers.Scans.{from}
+use Rattle.grammar.proofs.Forms.{then-all, seq-all, alt-all}
 use Rattle.grammar.proofs.Shapes.{alt-void, byte-step}
 use Rattle.grammar.proofs.Scans.{Follows, nothing, blank, solid, follows, dead-live, then-live, goes-on, stops-at, ends-early}
-use Rattle.grammar.specs.helpers.Words.{begins, common, larger}
+use Rattle.grammar.specs.helpers.Words.{begins, same-byte, common, larger}
+use Rattle.grammar.proofs.Matching.{matching-none}
 
 and-true : (a b : Bool) → b ≡ true → (a && b) ≡ a
 and-true true b e = e
@@ -43,10 +46,6 @@ T-and false b p q = p
 none-begins : (w : List ℕ) (n : ℕ) → length w ≡ suc n → begins w [] ≡ false
 none-begins [] n e = absurd (omega arith)
 none-begins (a ∷ w) n e = refl
-
-none-common : (w : List ℕ) → common w [] ≡ 0
-none-common [] = refl
-none-common (a ∷ w) = refl
 
 module _ {L : Type 0} where
   abbrev pub choice : List (Word L) → Grammar L
@@ -80,7 +79,8 @@ module _ {L : Type 0} where
   proper n [] = Unit {0}
   proper n (w ∷ ws) = (length (w .text) ≡ n) × (live (w .next) ≡ true) × (held (w .next) ≡ []) × T (differs (w .text) ws) × proper n ws
 
-  differs-kept : (b a : ℕ) (w v : List ℕ) (p : T (bytes? v)) (h : Grammar L) (ws : List (Word L)) → eqb b a ≡ true → T (not (same (a ∷ w) v)) → T (differs w ws)
+  differs-kept : (b a : ℕ) (w v : List ℕ) (p : T (bytes? v)) (h : Grammar L) (ws : List (Word L)) → eqb b a ≡ true
+      → T (not (same (a ∷ w) v)) → T (differs w ws)
       → T (differs w (kept b v p h ws))
   differs-kept b a w [] p h ws e d q = q
   differs-kept b a w (x ∷ v) p h ws e d q = go (eqb b x) refl
@@ -98,12 +98,14 @@ module _ {L : Type 0} where
       differs-kept b a w (v .text) (v .are) (v .next) (step b ws) e (T-left (not (same (a ∷ w) (v .text))) (differs (a ∷ w) ws) d)
       (differs-step b a w ws e (T-right (not (same (a ∷ w) (v .text))) (differs (a ∷ w) ws) d))
 
-  proper-kept : (n b : ℕ) (w : List ℕ) (p : T (bytes? w)) (h : Grammar L) (ws : List (Word L)) → length w ≡ suc n → live h ≡ true → held h ≡ []
+  proper-kept : (n b : ℕ) (w : List ℕ) (p : T (bytes? w)) (h : Grammar L) (ws : List (Word L)) → length w ≡ suc n → live h ≡ true
+      → held h ≡ []
       → T (differs w ws) → proper n (step b ws) → proper n (kept b w p h (step b ws))
   proper-kept n b [] p h ws l v k d q = q
   proper-kept n b (a ∷ w) p h ws l v k d q = go (eqb b a) refl
     where
-      go : (t : Bool) → eqb b a ≡ t → proper n (cond t (record { text = w; are = T-right (ltb a 256) (bytes? w) p; next = h } ∷ step b ws) (step b ws))
+      go : (t : Bool) → eqb b a ≡ t
+          → proper n (cond t (record { text = w; are = T-right (ltb a 256) (bytes? w) p; next = h } ∷ step b ws) (step b ws))
       go true e = (omega arith, v, k, differs-step b a w ws e d, q)
       go false e = q
 
@@ -113,27 +115,9 @@ module _ {L : Type 0} where
 
   -- ## Derivatives
 
-  or-live : (x y : Grammar L) → live x ≡ true → live (or-else x y) ≡ true
-  or-live x void l = l
-  or-live x empty l = rw l
-  or-live x (byte c) l = rw l
-  or-live x (h ⨾ k) l = rw l
-  or-live x (h ∣ k) l = rw l
-  or-live x (star h) l = rw l
-  or-live x (part k h) l = rw l
-  or-live x (rest c h) l = rw l
-  or-live x (nest o c k m h r n) l = rw l
-
-  alt-deriv : (f g h : Grammar L) (i b : ℕ) → deriv (alt (f ⨾ g) h) i b ≡ alt (deriv (f ⨾ g) i b) (deriv h i b)
-  alt-deriv f g void i b = sym (alt-void (deriv (f ⨾ g) i b))
-  alt-deriv f g empty i b = refl
-  alt-deriv f g (byte c) i b = refl
-  alt-deriv f g (h ⨾ k) i b = refl
-  alt-deriv f g (h ∣ k) i b = refl
-  alt-deriv f g (star h) i b = refl
-  alt-deriv f g (part l h) i b = refl
-  alt-deriv f g (rest c h) i b = refl
-  alt-deriv f g (nest o c l m h r n) i b = refl
+  alt-deriv : (i b : ℕ) (g h : Grammar L) → deriv (alt g h) i b ≡ alt (deriv g i b) (deriv h i b)
+  alt-deriv i b =
+      alt-all (λ g h k. deriv k i b ≡ alt (deriv g i b) (deriv h i b)) (λ h. refl) (λ g. sym (alt-void (deriv g i b))) (λ g h. refl)
 
   kept-choice : (b : ℕ) (w : List ℕ) (p : T (bytes? w)) (h : Grammar L) (ws : List (Word L)) (i n : ℕ) → length w ≡ suc n
       → alt (deriv (lit w p h) i b) (choice ws) ≡ choice (kept b w p h ws)
@@ -146,72 +130,48 @@ module _ {L : Type 0} where
       go true = refl
       go false = refl
 
-  lit-alt-deriv : (w : List ℕ) (p : T (bytes? w)) (h y : Grammar L) (i b n : ℕ) → length w ≡ suc n
-      → deriv (alt (lit w p h) y) i b ≡ alt (deriv (lit w p h) i b) (deriv y i b)
-  lit-alt-deriv [] p h y i b n e = absurd (omega arith)
-  lit-alt-deriv (a ∷ w) p h y i b n e = alt-deriv (byte (just a (T-left (ltb a 256) (bytes? w) p))) (lit w (T-right (ltb a 256) (bytes? w) p) h) y i b
-
   choice-deriv : (n : ℕ) (ws : List (Word L)) (i b : ℕ) → proper (suc n) ws → deriv (choice ws) i b ≡ choice (step b ws)
   choice-deriv n [] i b q = refl
   choice-deriv n (w ∷ ws) i b q =
-      lit-alt-deriv (w .text) (w .are) (w .next) (choice ws) i b n (q .0)
+      alt-deriv i b (lit (w .text) (w .are) (w .next)) (choice ws)
       ∙ ap (alt (deriv (lit (w .text) (w .are) (w .next)) i b)) (choice-deriv n ws i b (q .4))
       ∙ kept-choice b (w .text) (w .are) (w .next) (step b ws) i n (q .0)
 
   -- ## No word is empty
 
-  lit-null : (w : List ℕ) (p : T (bytes? w)) (h y : Grammar L) (n : ℕ) → length w ≡ suc n → nullable y ≡ false → nullable (alt (lit w p h) y) ≡ false
-  lit-null [] p h y n e q = absurd (omega arith)
-  lit-null (a ∷ w) p h y n e q = alt-null (byte (just a (T-left (ltb a 256) (bytes? w) p))) (lit w (T-right (ltb a 256) (bytes? w) p) h) y refl q
-    where
-      alt-null : (f g h : Grammar L) → nullable f ≡ false → nullable h ≡ false → nullable (alt (f ⨾ g) h) ≡ false
-      alt-null f g void z q = rw z
-      alt-null f g empty z q = absurd (true≢false q)
-      alt-null f g (byte c) z q = rw z
-      alt-null f g (h ⨾ k) z q = rw z q
-      alt-null f g (h ∣ k) z q = rw z q
-      alt-null f g (star h) z q = absurd (true≢false q)
-      alt-null f g (part l h) z q = rw z q
-      alt-null f g (rest c h) z q = rw z q
-      alt-null f g (nest o c l m h r n) z q = rw z
+  alt-null : (g h : Grammar L) → nullable g ≡ false → nullable h ≡ false → nullable (alt g h) ≡ false
+  alt-null =
+      alt-all (λ g h k. nullable g ≡ false → nullable h ≡ false → nullable k ≡ false) (λ h e f. f) (λ g e f. e) (λ g h e f. rw (e, f))
+
+  lit-null : (w : List ℕ) (p : T (bytes? w)) (h : Grammar L) (n : ℕ) → length w ≡ suc n → nullable (lit w p h) ≡ false
+  lit-null [] p h n e = absurd (omega arith)
+  lit-null (a ∷ w) p h n e = refl
 
   pub choice-null : (n : ℕ) (ws : List (Word L)) → proper (suc n) ws → nullable (choice ws) ≡ false
   choice-null n [] q = refl
-  choice-null n (w ∷ ws) q = lit-null (w .text) (w .are) (w .next) (choice ws) n (q .0) (choice-null n ws (q .4))
+  choice-null n (w ∷ ws) q =
+      alt-null (lit (w .text) (w .are) (w .next)) (choice ws) (lit-null (w .text) (w .are) (w .next) n (q .0)) (choice-null n ws (q .4))
 
-  lit-ends : (w : List ℕ) (p : T (bytes? w)) (h y : Grammar L) (i n : ℕ) → length w ≡ suc n → ends y i ≡ void → ends (alt (lit w p h) y) i ≡ void
-  lit-ends [] p h y i n e q = absurd (omega arith)
-  lit-ends (a ∷ w) p h y i n e q = alt-ends (just a (T-left (ltb a 256) (bytes? w) p)) (lit w (T-right (ltb a 256) (bytes? w) p) h) y q
-    where
-      alt-ends : (c : Class) (g h : Grammar L) → ends h i ≡ void → ends (alt (byte c ⨾ g) h) i ≡ void
-      alt-ends c g void q = refl
-      alt-ends c g empty q = q
-      alt-ends c g (byte d) q = refl
-      alt-ends c g (h ⨾ k) q = q
-      alt-ends c g (h ∣ k) q = q
-      alt-ends c g (star h) q = q
-      alt-ends c g (part l h) q = q
-      alt-ends c g (rest d h) q = q
-      alt-ends c g (nest o d l m h r n) q = q
+  alt-ends : (i : ℕ) (g h : Grammar L) → ends g i ≡ void → ends h i ≡ void → ends (alt g h) i ≡ void
+  alt-ends i =
+      alt-all (λ g h k. ends g i ≡ void → ends h i ≡ void → ends k i ≡ void) (λ h e f. f) (λ g e f. e) (λ g h e f. rw (e, f))
+
+  lit-ends : (w : List ℕ) (p : T (bytes? w)) (h : Grammar L) (i n : ℕ) → length w ≡ suc n → ends (lit w p h) i ≡ void
+  lit-ends [] p h i n e = absurd (omega arith)
+  lit-ends (a ∷ w) p h i n e = refl
 
   choice-ends : (n : ℕ) (ws : List (Word L)) (i : ℕ) → proper (suc n) ws → ends (choice ws) i ≡ void
   choice-ends n [] i q = refl
-  choice-ends n (w ∷ ws) i q = lit-ends (w .text) (w .are) (w .next) (choice ws) i n (q .0) (choice-ends n ws i (q .4))
+  choice-ends n (w ∷ ws) i q =
+      alt-ends i (lit (w .text) (w .are) (w .next)) (choice ws) (lit-ends (w .text) (w .are) (w .next) i n (q .0)) (choice-ends n ws i (q .4))
 
   pub lit-live : (w : List ℕ) (p : T (bytes? w)) (h : Grammar L) → live (lit w p h) ≡ live h
   lit-live [] p h = refl
   lit-live (a ∷ w) p h = lit-live w (T-right (ltb a 256) (bytes? w) p) h
 
   alt-live : (x y : Grammar L) → live x ≡ true → live (alt x y) ≡ true
-  alt-live void y l = absurd (true≢false (sym l))
-  alt-live empty y l = or-live empty y l
-  alt-live (byte c) y l = or-live (byte c) y l
-  alt-live (f ⨾ g) y l = or-live (f ⨾ g) y l
-  alt-live (f ∣ g) y l = or-live (f ∣ g) y l
-  alt-live (star g) y l = or-live (star g) y l
-  alt-live (part k g) y l = or-live (part k g) y l
-  alt-live (rest c g) y l = or-live (rest c g) y l
-  alt-live (nest o c k m g r n) y l = or-live (nest o c k m g r n) y l
+  alt-live =
+      alt-all (λ x y k. live x ≡ true → live k ≡ true) (λ y l. absurd (true≢false (sym l))) (λ x l. l) (λ x y l. rw l)
 
   pub choice-live : (n : ℕ) (w : Word L) (ws : List (Word L)) → proper n (w ∷ ws) → live (choice (w ∷ ws)) ≡ true
   choice-live n w ws q = alt-live (lit (w .text) (w .are) (w .next)) (choice ws) (lit-live (w .text) (w .are) (w .next) ∙ q .1)
@@ -239,7 +199,7 @@ module _ {L : Type 0} where
 
   nearest-end : (ws : List (Word L)) → nearest ws [] ≡ 0
   nearest-end [] = refl
-  nearest-end (w ∷ ws) = rw (none-common (w .text)) (nearest-end ws)
+  nearest-end (w ∷ ws) = rw (matching-none same-byte (w .text)) (nearest-end ws)
 
   -- behind a byte that no word goes on with, nothing is common; otherwise one byte more is
   abbrev one-more : List (Word L) → ℕ → ℕ
@@ -251,17 +211,21 @@ module _ {L : Type 0} where
   larger-kept b t [] p h vs n e = absurd (omega arith)
   larger-kept b t (a ∷ w) p h vs n e = go (eqb b a) vs
     where
+      word : Word L
+      word = record { text = w; are = T-right (ltb a 256) (bytes? w) p; next = h }
+
       none-larger : (m : ℕ) → m ≡ larger m 0
       none-larger zero = refl
       none-larger (suc m) = refl
 
       go : (x : Bool) (vs : List (Word L)) → larger (cond x (suc (common w t)) 0) (one-more vs (nearest vs t))
-          ≡ one-more (cond x (record { text = w; are = T-right (ltb a 256) (bytes? w) p; next = h } ∷ vs) vs) (nearest (cond x (record { text = w; are = T-right (ltb a 256) (bytes? w) p; next = h } ∷ vs) vs) t)
+          ≡ one-more (cond x (word ∷ vs) vs) (nearest (cond x (word ∷ vs) vs) t)
       go true [] = ap suc (none-larger (common w t))
       go true (v ∷ vs) = refl
       go false vs = refl
 
-  nearest-step : (n b : ℕ) (t : List ℕ) (ws : List (Word L)) → proper (suc n) ws → nearest ws (b ∷ t) ≡ one-more (step b ws) (nearest (step b ws) t)
+  nearest-step : (n b : ℕ) (t : List ℕ) (ws : List (Word L)) → proper (suc n) ws
+      → nearest ws (b ∷ t) ≡ one-more (step b ws) (nearest (step b ws) t)
   nearest-step n b t [] q = refl
   nearest-step n b t (w ∷ ws) q =
       ap (larger (common (w .text) (b ∷ t))) (nearest-step n b t ws (q .4))
@@ -303,16 +267,19 @@ module _ {L : Type 0} (g : Grammar L) (l : live g ≡ true) (firm : (x : Grammar
       go (rest c x) h k e = then-live (rest c x) h k ∙ e
       go (nest o c m n x r j) h k e = then-live (nest o c m n x r j) h k ∙ e
 
-  then-null : (x h : Grammar L) → nullable x ≡ false → nullable (then x h) ≡ false
-  then-null x void e = refl
-  then-null x empty e = e
-  then-null x (byte c) e = rw e
-  then-null x (f ⨾ h) e = rw e
-  then-null x (f ∣ h) e = rw e
-  then-null x (star h) e = rw e
-  then-null x (part m h) e = rw e
-  then-null x (rest c h) e = rw e
-  then-null x (nest o c m n h r j) e = rw e
+  seq-null : (x h : Grammar L) → nullable (seq x h) ≡ nullable x && nullable h
+  seq-null =
+      seq-all (λ x h k. nullable k ≡ nullable x && nullable h) (λ h. refl) (λ h. refl)
+      (then-all (λ x h k. nullable k ≡ nullable x && nullable h) (λ x. and-no (nullable x)) (λ x. sym (and-true (nullable x) true refl)) (λ x h. refl))
+      (λ f x h y z. y ∙ ap (λ (b : Bool). nullable f && b) z ∙ and-assoc (nullable f) (nullable x) (nullable h))
+    where
+      and-no : (a : Bool) → false ≡ a && false
+      and-no true = refl
+      and-no false = refl
+
+      and-assoc : (a b c : Bool) → (a && (b && c)) ≡ ((a && b) && c)
+      and-assoc true b c = refl
+      and-assoc false b c = refl
 
   then-byte : (c : Class) (h : Grammar L) (i b : ℕ) → live h ≡ true → deriv (then (byte c) h) i b ≡ cond (c .has b) h void
   then-byte c h i b k = go (follows h)
@@ -327,20 +294,10 @@ module _ {L : Type 0} (g : Grammar L) (l : live g ≡ true) (firm : (x : Grammar
 
   -- the two shapes of a choice
   module _ (c : Class) (y : Grammar L) where
-    two-null : (z : Grammar L) → nullable (alt (byte c ⨾ y) z) ≡ false → nullable (seq (alt (byte c ⨾ y) z) g) ≡ false
-    two-null void e = then-null (byte c) (seq y g) refl
-    two-null empty e = then-null ((byte c ⨾ y) ∣ empty) g e
-    two-null (byte d) e = then-null ((byte c ⨾ y) ∣ byte d) g e
-    two-null (f ⨾ h) e = then-null ((byte c ⨾ y) ∣ (f ⨾ h)) g e
-    two-null (f ∣ h) e = then-null ((byte c ⨾ y) ∣ (f ∣ h)) g e
-    two-null (star h) e = then-null ((byte c ⨾ y) ∣ star h) g e
-    two-null (part m h) e = then-null ((byte c ⨾ y) ∣ part m h) g e
-    two-null (rest d h) e = then-null ((byte c ⨾ y) ∣ rest d h) g e
-    two-null (nest o d m n h r j) e = then-null ((byte c ⨾ y) ∣ nest o d m n h r j) g e
-
     two-deriv : (z : Grammar L) (i b : ℕ) → live y ≡ true → ends (alt (byte c ⨾ y) z) i ≡ void
         → deriv (seq (alt (byte c ⨾ y) z) g) i b ≡ seq (deriv (alt (byte c ⨾ y) z) i b) g
-    two-deriv void i b k e = then-byte c (seq y g) i b (seq-live y k) ∙ go (c .has b) ∙ ap (λ (x : Grammar L). seq x g) (sym (byte-step c i b y))
+    two-deriv void i b k e =
+        then-byte c (seq y g) i b (seq-live y k) ∙ go (c .has b) ∙ ap (λ (x : Grammar L). seq x g) (sym (byte-step c i b y))
       where
         go : (t : Bool) → cond t (seq y g) void ≡ seq (cond t y void) g
         go true = refl
@@ -354,16 +311,11 @@ module _ {L : Type 0} (g : Grammar L) (l : live g ≡ true) (firm : (x : Grammar
     two-deriv (rest d h) i b k e = then-deriv ((byte c ⨾ y) ∣ rest d h) i b e
     two-deriv (nest o d m n h r j) i b k e = then-deriv ((byte c ⨾ y) ∣ nest o d m n h r j) i b e
 
-  shut-one : (w : List ℕ) (p : T (bytes? w)) (h z : Grammar L) (n : ℕ) → length w ≡ suc n → nullable (alt (lit w p h) z) ≡ false
-      → nullable (seq (alt (lit w p h) z) g) ≡ false
-  shut-one [] p h z n e k = absurd (omega arith)
-  shut-one (a ∷ w) p h z n e k = two-null (just a (T-left (ltb a 256) (bytes? w) p)) (lit w (T-right (ltb a 256) (bytes? w) p) h) z k
-
   shut-all : (n : ℕ) (ws : List (Word L)) → proper (suc n) ws → nullable (seq (choice ws) g) ≡ false
-  shut-all n [] q = refl
-  shut-all n (w ∷ ws) q = shut-one (w .text) (w .are) (w .next) (choice ws) n (q .0) (choice-null n (w ∷ ws) q)
+  shut-all n ws q = rw (seq-null (choice ws) g, choice-null n ws q)
 
-  through-one : (w : List ℕ) (p : T (bytes? w)) (h z : Grammar L) (n i b : ℕ) → length w ≡ suc n → live h ≡ true → ends (alt (lit w p h) z) i ≡ void
+  through-one : (w : List ℕ) (p : T (bytes? w)) (h z : Grammar L) (n i b : ℕ) → length w ≡ suc n → live h ≡ true
+      → ends (alt (lit w p h) z) i ≡ void
       → deriv (seq (alt (lit w p h) z) g) i b ≡ seq (deriv (alt (lit w p h) z) i b) g
   through-one [] p h z n i b e k d = absurd (omega arith)
   through-one (a ∷ w) p h z n i b e k d =
@@ -384,7 +336,8 @@ any (w ∷ ws) = true
 
 module _ {L A : Type 0} (r : Rules L A) (s : List ℕ) (quiet : (n : ℕ) (ps : List (Part L)) → r .limit n ps ≡ none) (cs : List (Part L))
     (K : Grammar L → Grammar L) (tail : Tail K) where
-  onward : (n : ℕ) (ws : List (Word L)) (i : ℕ) (w : Word L) (vs : List (Word L)) → proper (suc n) ws → i < length s → step (getD s i 0) ws ≡ w ∷ vs
+  onward : (n : ℕ) (ws : List (Word L)) (i : ℕ) (w : Word L) (vs : List (Word L)) → proper (suc n) ws → i < length s
+      → step (getD s i 0) ws ≡ w ∷ vs
       → from r s (ahead cs (K (choice ws))) i ≡ from r s (ahead cs (K (choice (step (getD s i 0) ws)))) (i + 1)
   onward n ws i w vs q at e =
       goes-on r s cs (K (choice ws)) i (K (choice (step (getD s i 0) ws))) at
@@ -425,7 +378,8 @@ module _ {L A : Type 0} (r : Rules L A) (s : List ℕ) (quiet : (n : ℕ) (ps : 
       some-is : some (w .next) ≡ some h → w .next ≡ h
       some-is e = cc
   word-found zero (w ∷ v ∷ ws) q i h e = absurd (one-left w v ws (q .0) (q .4 .0) (q .3))
-  word-found (suc n) ws q i h e = go (ltb i (length s)) refl (word-found n (step (getD s i 0) ws) (proper-step n (getD s i 0) ws q) (i + 1) h)
+  word-found (suc n) ws q i h e =
+      go (ltb i (length s)) refl (word-found n (step (getD s i 0) ws) (proper-step n (getD s i 0) ws q) (i + 1) h)
     where
       go : (x : Bool) → ltb i (length s) ≡ x
           → (find (step (getD s i 0) ws) (drop (i + 1) s) ≡ some h → from r s (ahead cs (K (choice (step (getD s i 0) ws)))) (i + 1) ≡ from r s (ahead cs (K h)) (i + 1 + n))
@@ -479,7 +433,8 @@ module _ {L A : Type 0} (r : Rules L A) (s : List ℕ) (quiet : (n : ℕ) (ps : 
           missed : find (step (getD s i 0) (w ∷ ws)) (drop (i + 1) s) ≡ none
           missed = sym (find-step n (getD s i 0) (drop (i + 1) s) (w ∷ ws) q) ∙ (rw (here i at) at e)
 
-          left : (vs : List (Word L)) → step (getD s i 0) (w ∷ ws) ≡ vs → from r s (ahead cs (K (choice (w ∷ ws)))) i ≡ refused 1 (i + nearest (w ∷ ws) (drop i s))
+          left : (vs : List (Word L)) → step (getD s i 0) (w ∷ ws) ≡ vs
+              → from r s (ahead cs (K (choice (w ∷ ws)))) i ≡ refused 1 (i + nearest (w ∷ ws) (drop i s))
           left [] d =
               stops-at r s cs (K (choice (w ∷ ws))) i at
               (tail .through n (w ∷ ws) i (getD s i 0) q ∙ ap K (choice-deriv n (w ∷ ws) i (getD s i 0) q ∙ ap choice d) ∙ tail .dead)

@@ -1,14 +1,15 @@
 -- Grammars of header values with named parts, and what each one means: `Parses g i s ps`, the text s (a list of bytes), which stands
 -- at the place i, is one of g's, and ps are its parts in order, each with its name, the place where it starts and its bytes.
---
-use Prim.Native.Nat.{ℕ, zero, suc, _+_, _≤_, _<_}
-use native.Mathlib.Omega.{arith}
-use borrow.Author.Tests.{leb-true}
-use mathlib.Core.Path.{_≡_, refl}
+use Prim.Native.Nat.{ℕ, zero, suc}
+use mathlib.Core.Path.{_≡_}
 use mathlib.Core.Logic.{_⊎_}
-use mathlib.Core.Bool.{Bool, true, false, cond, _&&_}
+use mathlib.Core.Bool.{Bool, true, _&&_}
 use mathlib.Core.List.{List, [], _∷_, _++_}
-use lib.Dec.{T, leb, ltb, eqb, eqb-refl, eqb→eq, ltb→lt, lt→ltb}
+use lib.Dec.{T, ltb, eqb, eqb-refl}
+use Rattle.grammar.specs.helpers.Bounds.{fold-below}
+-- names that crates above take from here
+pub use Rattle.grammar.specs.helpers.Bounds.{T-left, T-right, just-below}
+unfoldable pub use Rattle.grammar.specs.Letters.{lower}
 
 -- A class of bytes: a test that only bytes pass, with one that does, so that no class is void.
 pub record Class : Type 0 where
@@ -22,6 +23,9 @@ pub record Part (L : Type 0) : Type 0 where
   pub start : ℕ
   pub text : List ℕ
 
+-- What is left of a grammar behind a byte is again a grammar, of this same type, so that each law is stated once for both. Two forms are
+-- there for that: `rest`, a part that has begun, and `nest` with an item that has begun and levels that are open. The grammar of a
+-- kind of header value has `rest` nowhere (`fresh?` of helpers/Checks.antt tests it), and writes `nested`, below, for `nest`.
 infixr 45 _⨾_
 infixr 40 _∣_
 pub data Grammar (L : Type 0) : Type 0 where
@@ -31,7 +35,7 @@ pub data Grammar (L : Type 0) : Type 0 where
   star : Grammar L → Grammar L
   -- a text of g is a part of that name
   part : L → Grammar L → Grammar L
-  -- for derivatives: a text of g is the rest of a part that has begun
+  -- rest c g: c is a part that has begun, and a text of g is the rest of it
   rest : Part L → Grammar L → Grammar L
   -- nest o c l m g r n: the rest r of an item, and then what closes n + 1 nested levels of items g; a byte that opens a level, of o, is a
   -- part l, and one that closes a level, of c, a part m
@@ -49,7 +53,8 @@ grown c s = record { label = c .label; start = c .start; text = c .text ++ s }
 -- none, one or more texts of P, one after the other; none of them is empty
 pub data Many {L : Type 0} (P : ℕ → List ℕ → List (Part L) → Type 0) : ℕ → List ℕ → List (Part L) → Type 0 where
   none : {i : ℕ} → Many P i [] []
-  more : {i : ℕ} (b : ℕ) (t u : List ℕ) (ps qs : List (Part L)) → P i (b ∷ t) ps → Many P (past (suc i) t) u qs → Many P i (b ∷ (t ++ u)) (ps ++ qs)
+  more : {i : ℕ} (b : ℕ) (t u : List ℕ) (ps qs : List (Part L)) → P i (b ∷ t) ps → Many P (past (suc i) t) u qs
+      → Many P i (b ∷ (t ++ u)) (ps ++ qs)
 
 -- a text at whose beginning n levels are open, and none at its end: items P stand only within a level
 pub data Nest {L : Type 0} (o c : Class) (l m : L) (P : ℕ → List ℕ → List (Part L) → Type 0) : ℕ → ℕ → List ℕ → List (Part L) → Type 0 where
@@ -76,7 +81,8 @@ Parses {L} (nest o c l m g r n) i s ps =
     (t : List ℕ) × (u : List ℕ) × (qs : List (Part L)) × (rs : List (Part L)) × (s ≡ t ++ u) × (ps ≡ qs ++ rs)
     × Parses r i t qs × Nest o c l m (Parses g) (suc n) (past i t) u rs
 
--- Derived forms.
+-- ## Derived forms
+
 abbrev pub opt : {L : Type 0} → Grammar L → Grammar L
 opt g = empty ∣ g
 
@@ -88,36 +94,9 @@ abbrev pub up-to : {L : Type 0} → ℕ → Grammar L → Grammar L
 up-to zero g = empty
 up-to (suc n) g = opt (g ⨾ up-to n g)
 
-pub just-below : (b : ℕ) → T (ltb b 256) → (x : ℕ) → T (eqb x b) → T (ltb x 256)
-just-below b p x h = rw (eqb→eq x b h) p
-
 -- one byte, as it is
 abbrev pub just : (b : ℕ) → T (ltb b 256) → Class
 just b p = record { has = λ x. eqb x b; below = just-below b p; some = b; holds = eqb-refl b }
-
--- a capital letter as the small one; any other byte as it is
-unfoldable pub lower : ℕ → ℕ
-lower b = cond (leb 65 b && leb b 90) (b + 32) b
-
-lower-up : (x : ℕ) → x ≤ lower x
-unfolding lower
-lower-up x = go (leb 65 x && leb x 90)
-  where
-    go : (t : Bool) → x ≤ cond t (x + 32) x
-    go true = omega arith
-    go false = omega arith
-
-lower-byte : (x : ℕ) → x < 256 → lower x < 256
-unfolding lower
-lower-byte x h = go (leb 65 x) (leb x 90) refl
-  where
-    go : (s t : Bool) → leb x 90 ≡ t → cond (s && t) (x + 32) x < 256
-    go false t e = h
-    go true false e = h
-    go true true e = omega (arith, leb-true x 90 e)
-
-pub fold-below : (b : ℕ) → T (ltb b 256) → (x : ℕ) → T (eqb (lower x) (lower b)) → T (ltb x 256)
-fold-below b p x h = lt→ltb x 256 (omega (arith, lower-up x, lower-byte b (ltb→lt b 256 p), eqb→eq (lower x) (lower b) h))
 
 -- one byte, in either letter case
 abbrev pub fold : (b : ℕ) → T (ltb b 256) → Class
@@ -126,14 +105,6 @@ fold b p = record { has = λ x. eqb (lower x) (lower b); below = fold-below b p;
 abbrev pub bytes? : List ℕ → Bool
 bytes? [] = true
 bytes? (b ∷ s) = ltb b 256 && bytes? s
-
-pub T-left : (a b : Bool) → T (a && b) → T a
-T-left true b p = tt
-T-left false b p = p
-
-pub T-right : (a b : Bool) → T (a && b) → T b
-T-right true b p = p
-T-right false b p = absurd p
 
 -- the bytes l as they are, and then g
 abbrev pub lit : {L : Type 0} → (l : List ℕ) → T (bytes? l) → Grammar L → Grammar L

@@ -1,3 +1,4 @@
+pub mod Letters
 pub mod Grammar
 pub mod Classes
 pub mod Beginnings

@@ -1,5 +1,5 @@
 -- What reading a header value must answer: document 01, "Refusal numbers", over any grammar, limits, faults and values.
-use Prim.Native.Nat.{ℕ, suc, _-_, _≤_, _<_}
+use Prim.Native.Nat.{ℕ, zero, suc, _-_, _≤_, _<_}
 use mathlib.Core.Path.{_≡_}
 use mathlib.Core.Bool.{cond}
 use mathlib.Core.List.{List, [], _∷_, _++_}
@@ -8,6 +8,8 @@ use lib.Dec.{T, ltb}
 use lib.ListN.{length, take}
 use Rattle.grammar.specs.Grammar.{Part, Grammar, Parses, bytes?}
 use Rattle.grammar.specs.Beginnings.{Matches, Longest}
+use Rattle.grammar.specs.Refusals.{MALFORMED, NUMBER_ABOVE_LIMIT, NO_SUCH_DATE, WRONG_DAY_NAME}
+use Rattle.grammar.specs.Refusals.{TOO_MANY_PARAMETERS, REPEATED_ATTRIBUTE, COMMENT_TOO_DEEP, VALUE_TOO_LONG}
 
 -- A header value has at most 8,192 bytes.
 abbrev pub value-limit : ℕ
@@ -21,19 +23,19 @@ pub data Limit : Type 0 where
 pub data Fault : Type 0 where
   no-such-date wrong-day : Fault
 
--- their numbers; 1 and 13 are none of them
+-- their numbers; refusals 1 and 13 are none of them
 abbrev pub limit-number : Limit → ℕ
-limit-number above = 2
-limit-number crowded = 10
-limit-number repeated = 11
-limit-number deep = 12
+limit-number above = NUMBER_ABOVE_LIMIT
+limit-number crowded = TOO_MANY_PARAMETERS
+limit-number repeated = REPEATED_ATTRIBUTE
+limit-number deep = COMMENT_TOO_DEEP
 
 abbrev pub fault-number : Fault → ℕ
-fault-number no-such-date = 3
-fault-number wrong-day = 4
+fault-number no-such-date = NO_SUCH_DATE
+fault-number wrong-day = WRONG_DAY_NAME
 
--- A kind of header value: what is well-formed; which limit the byte at the place k breaks, the parts through it being ps; the fault of
--- the parts of a whole text; what they mean.
+-- A kind of header value: what is well-formed; the limit that is passed at the byte at the place k, the parts through it being ps; the
+-- fault of the parts of a whole text; what they mean.
 pub record Rules (L A : Type 0) : Type 0 where
   pub grammar : Grammar L
   pub limit : (k : ℕ) (ps : List (Part L)) → Option Limit
@@ -43,31 +45,47 @@ pub record Rules (L A : Type 0) : Type 0 where
 -- The parts that have begun before the place n, as far as they stand before it.
 abbrev pub parts-before : {L : Type 0} → ℕ → List (Part L) → List (Part L)
 parts-before n [] = []
-parts-before n (c ∷ ps) = cond (ltb (c .start) n) (record { label = c .label; start = c .start; text = take (n - c .start) (c .text) } ∷ parts-before n ps) (parts-before n ps)
+parts-before n (c ∷ ps) =
+    cond (ltb (c .start) n)
+    (record { label = c .label; start = c .start; text = take (n - c .start) (c .text) } ∷ parts-before n ps)
+    (parts-before n ps)
 
 module _ {L A : Type 0} (r : Rules L A) where
   -- some continuation makes the beginning p well-formed, and ps are the parts as far as p holds them
   abbrev pub SoFar : List ℕ → List (Part L) → Type 0
-  SoFar p ps = (t : List ℕ) × (qs : List (Part L)) × T (bytes? t) × Parses (r .grammar) 0 (p ++ t) qs × (ps ≡ parts-before (length p) qs)
+  SoFar p ps =
+      (t : List ℕ) × (qs : List (Part L)) × T (bytes? t) × Parses (r .grammar) 0 (p ++ t) qs × (ps ≡ parts-before (length p) qs)
 
-  -- the byte at the place k leaves a continuation and breaks the limit l
+  -- the first n bytes of s have a continuation, and with the last of them the limit l is passed
+  abbrev pub Passes : List ℕ → Limit → ℕ → Type 0
+  Passes s l zero = ⊥
+  Passes s l (suc k) = (ps : List (Part L)) × SoFar (take (suc k) s) ps × (r .limit k ps ≡ some l)
+
+  -- the byte at the place k breaks the limit l: with it the limit is passed, and without it it is not
   abbrev pub Breaks : List ℕ → Limit → ℕ → Type 0
-  Breaks s l k = (k < length s) × ((ps : List (Part L)) × SoFar (take (suc k) s) ps × (r .limit k ps ≡ some l))
+  Breaks s l k = (k < length s) × Passes s l (suc k) × (Passes s l k → ⊥)
 
   -- no byte before the place n breaks a limit
   abbrev pub Sound : List ℕ → ℕ → Type 0
   Sound s n = (k : ℕ) (l : Limit) → k < n → Breaks s l k → ⊥
+
+  -- a limit that stays passed, as one on a number does: with each later byte it is passed too
+  abbrev pub Stays : Limit → Type 0
+  Stays l =
+      (k : ℕ) (ps : List (Part L)) → r .limit k (parts-before (suc k) ps) ≡ some l
+      → r .limit (suc k) (parts-before (suc (suc k)) ps) ≡ some l
 
 -- an answer: the value, or the number and the place of a refusal
 pub data Verdict (A : Type 0) : Type 0 where
   value : A → Verdict A
   refused : (number place : ℕ) → Verdict A
 
--- The answer to a header value. Order: 13; then the lowest place among 1, 2, 10, 11, 12; then, on a well-formed value, 3, then 4.
+-- The answer to a header value. "Order for header values: 13; then the lowest place among 1, 2, 10, 11, 12; then, on a well-formed date, 3,
+-- then 4."
 pub data Answers {L A : Type 0} (r : Rules L A) (s : List ℕ) : Verdict A → Type 0 where
-  too-long : value-limit < length s → Answers r s (refused 13 value-limit)
+  too-long : value-limit < length s → Answers r s (refused VALUE_TOO_LONG value-limit)
   malformed : {p : ℕ} → length s ≤ value-limit → (Matches (r .grammar) s → ⊥) → Longest (r .grammar) s p → Sound r s p
-      → Answers r s (refused 1 p)
+      → Answers r s (refused MALFORMED p)
   breaks : {l : Limit} {p : ℕ} → length s ≤ value-limit → Breaks r s l p → Sound r s p → Answers r s (refused (limit-number l) p)
   faulty : {ps : List (Part L)} {f : Fault} → length s ≤ value-limit → Parses (r .grammar) 0 s ps → Sound r s (length s)
       → r .fault ps ≡ some f → Answers r s (refused (fault-number f) 0)

@@ -4,14 +4,14 @@ use Prim.Native.Nat.{ℕ}
 abbrev pub MALFORMED : ℕ
 MALFORMED = 1
 
-abbrev pub ABOVE_LIMIT : ℕ
-ABOVE_LIMIT = 2
+abbrev pub NUMBER_ABOVE_LIMIT : ℕ
+NUMBER_ABOVE_LIMIT = 2
 
 abbrev pub NO_SUCH_DATE : ℕ
 NO_SUCH_DATE = 3
 
-abbrev pub WRONG_DAY : ℕ
-WRONG_DAY = 4
+abbrev pub WRONG_DAY_NAME : ℕ
+WRONG_DAY_NAME = 4
 
 abbrev pub LINE_TOO_LONG : ℕ
 LINE_TOO_LONG = 5
@@ -34,8 +34,8 @@ TOO_MANY_PARAMETERS = 10
 abbrev pub REPEATED_ATTRIBUTE : ℕ
 REPEATED_ATTRIBUTE = 11
 
-abbrev pub NESTED_TOO_DEEP : ℕ
-NESTED_TOO_DEEP = 12
+abbrev pub COMMENT_TOO_DEEP : ℕ
+COMMENT_TOO_DEEP = 12
 
 abbrev pub VALUE_TOO_LONG : ℕ
 VALUE_TOO_LONG = 13

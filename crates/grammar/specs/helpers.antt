@@ -1,4 +1,5 @@
 -- For the contracts of helpers and for proofs. Nothing here has to be believed.
+pub mod Bounds
 pub mod Derivative
 pub mod Judge
 pub mod Checks

@@ -1,15 +1,15 @@
 -- The reader's scans against the grammar: the first part, and behind a part the end, or a hyphen and the next part.
-use Prim.Native.Nat.{ℕ, zero, suc, _+_, _-_, _≤_, _<_}
+use Prim.Native.Nat.{ℕ, _+_, _-_, _≤_, _<_}
 use native.Mathlib.Omega.{arith}
 use borrow.Author.Tests.{ne-eqb, eq-eqb, ltb-true, ltb-false, lt-ltb, le-ltb}
-use mathlib.Core.Path.{_≡_, refl, sym, ap, ap₂, subst, _∙_}
+use mathlib.Core.Path.{_≡_, refl, sym, ap, ap₂, _∙_}
 use mathlib.Core.Bool.{Bool, true, false, cond, true≢false}
 use mathlib.Core.List.{List, [], _∷_, _++_}
-use lib.Dec.{ltb, eqb}
+use lib.Dec.{ltb}
 use lib.ListN.{length, getD, length-append}
-use Rattle.grammar.specs.Grammar.{Part, Grammar, void, byte, _⨾_, part, up-to, just}
-use Rattle.grammar.specs.helpers.Derivative.{deriv, then}
-use Rattle.grammar.specs.Reading.{Verdict, value, refused}
+use Rattle.grammar.specs.Grammar.{Part, void, _⨾_, part}
+use Rattle.grammar.specs.helpers.Derivative.{deriv}
+use Rattle.grammar.specs.Reading.{value, refused}
 use Rattle.grammar.specs.helpers.Checks.{ahead}
 use Rattle.grammar.specs.helpers.Judge.{header}
 use Rattle.grammar.specs.helpers.Scans.{slice, from}
@@ -19,9 +19,9 @@ use Rattle.grammar.proofs.Pieces.{slice-length}
 use Rattle.grammar.proofs.Repeats.{Short, part-one-up-to, part-one-up-to-none, may-end}
 use Rattle.octets.specs.Bytes.{letter?}
 use Rattle.octets.specs.Classes.{LETTER}
-use Rattle.octets.specs.helpers.Runs.{run-end}
-use Rattle.octets.proofs.Runs.{run-is}
-use Rattle.language.specs.Grammar.{Name, primary, subtag, letters, subtags, language, primary-length, rules}
+use Rattle.scans.specs.helpers.Runs.{run-end}
+use Rattle.scans.proofs.Runs.{run-is}
+use Rattle.language.specs.Grammar.{Name, primary, subtag, letters, subtags, primary-length, rules}
 use Rattle.language.specs.helpers.Scan.{part-end, Behind}
 
 -- ## The place behind a part
@@ -90,9 +90,9 @@ first-kept [] p h = absurd (omega arith)
 first-kept (a ∷ ps) p h = refl
 
 module _ (s : List ℕ) (n f i : ℕ) (w : Behind s n f i) where
-  pub tag-reads : length s ≤ i → header rules s ≡ value (record { parts = n; «primary_len» = f })
+  pub tag-reads : length s ≤ i → header rules s ≡ value (record { parts = n; «primary_length» = f })
   tag-reads h =
-      w .reads ∙ may-end rules s (w .tags) subtags i h refl refl ∙ ap₂ (λ (x y : ℕ). value (record { parts = x; «primary_len» = y })) (w .count) (w .long)
+      w .reads ∙ may-end rules s (w .tags) subtags i h refl refl ∙ ap₂ (λ (x y : ℕ). value (record { parts = x; «primary_length» = y })) (w .count) (w .long)
 
   module _ (at : i < length s) where
     pub hyphen-not : (getD s i 0 ≡ 45 → ⊥) → header rules s ≡ refused 1 i

@@ -4,7 +4,7 @@ ghost use Rattle.grammar.specs.helpers.Judge.{header};
 ghost use Rattle.octets.specs.Comparing.{comparison};
 ghost use Rattle.language.specs.Grammar.{rules};
 ghost use Rattle.language.specs.Reading.{verdict, equality};
-ghost use Rattle.language.specs.helpers.Scan.{part-end};
+ghost use Rattle.language.specs.helpers.Scan.{part-end, Behind};
 use octets::Compared;
 use octets::Refusal;
 
@@ -14,7 +14,7 @@ const PART_LIMIT: usize = 8;
 // How many parts a tag has, and how many letters the first of them has.
 pub struct Tag {
     pub parts: usize,
-    pub primary_len: usize,
+    pub primary_length: usize,
 }
 
 pub enum Reading {
@@ -27,29 +27,19 @@ pub fn read(s: &[u8]) -> Reading
     ensures { λ r. ⌜ verdict r ≡ header rules (now (s .entry)) ⌝ }
 {
     if s.len() > octets::VALUE_LIMIT {
-        return refused(13, octets::VALUE_LIMIT);
+        return Reading::Refused(Refusal {
+            number: octets::VALUE_TOO_LONG,
+            place: octets::VALUE_LIMIT,
+        });
     }
-    let primary = part_end(s, 0);
-    if primary == 0 {
-        return refused(1, 0);
+    let end = part_end(s, 0);
+    if end == 0 {
+        return Reading::Refused(Refusal {
+            number: octets::MALFORMED,
+            place: 0,
+        });
     }
-    let mut parts = 1;
-    let mut at = primary;
-    while at < s.len() {
-        if s[at] != b'-' {
-            return refused(1, at);
-        }
-        let end = part_end(s, at + 1);
-        if end == at + 1 {
-            return refused(1, end);
-        }
-        parts += 1;
-        at = end;
-    }
-    Reading::Read(Tag {
-        parts,
-        primary_len: primary,
-    })
+    read_subtags(s, end)
 }
 
 // Reads the first, then the second, and compares them, letter case ignored.
@@ -71,17 +61,41 @@ pub fn equal(a: &[u8], b: &[u8]) -> Compared
     }
 }
 
-fn refused(number: u8, place: usize) -> Reading
-    ensures { λ r. ⌜ r ≡ Reading.Refused (record { number = number; place = place }) ⌝ }
+// Reads on behind the first part.
+fn read_subtags(s: &[u8], primary_length: usize) -> Reading
+    requires { ⌜ Behind (now s) 1 «primary_length» «primary_length» ⌝ }
+    ensures { λ r. ⌜ verdict r ≡ header rules (now (s .entry)) ⌝ }
 {
-    Reading::Refused(Refusal { number, place })
+    let mut parts = 1;
+    let mut at = primary_length;
+    while at < s.len() {
+        if s[at] != b'-' {
+            return Reading::Refused(Refusal {
+                number: octets::MALFORMED,
+                place: at,
+            });
+        }
+        let end = part_end(s, at + 1);
+        if end == at + 1 {
+            return Reading::Refused(Refusal {
+                number: octets::MALFORMED,
+                place: end,
+            });
+        }
+        parts += 1;
+        at = end;
+    }
+    Reading::Read(Tag {
+        parts,
+        primary_length,
+    })
 }
 
 // The place behind the letters at `from`, of which a part takes at most eight.
 fn part_end(s: &[u8], from: usize) -> usize
     ensures { λ r. ⌜ r ≡ part-end (now (s .entry)) from ⌝ }
 {
-    let end = octets::class_end(octets::LETTER, s, from);
+    let end = scans::class_end(octets::LETTER, s, from);
     if end - from > PART_LIMIT {
         from + PART_LIMIT
     } else {

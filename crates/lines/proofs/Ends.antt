@@ -97,12 +97,14 @@ first-line begun (b ∷ xs) h = split (eqb b 10)
     let t : suc (line-end xs + 1) ≡ line-end (b ∷ xs) + 1 = omega arith in
     let g = first-line (begun ++ (b ∷ [])) xs (omega arith) in (
       lines-on begun b xs e ∙ g .0
-          ∙ ap₂ (λ (x y : List ℕ). x ∷ lines-from [] y) (append-assoc begun (b ∷ []) (take (line-end xs) xs) ∙ ap (λ (i : ℕ). begun ++ take i (b ∷ xs)) s)
+          ∙ ap₂ (λ (x y : List ℕ). x ∷ lines-from [] y)
+          (append-assoc begun (b ∷ []) (take (line-end xs) xs) ∙ ap (λ (i : ℕ). begun ++ take i (b ∷ xs)) s)
           (ap (λ (i : ℕ). drop i (b ∷ xs)) t),
       rest-on begun b xs e ∙ g .1 ∙ ap (λ (i : ℕ). rest-from [] (drop i (b ∷ xs))) t,
     ))
 
-pub no-line : (begun piece : List ℕ) → length piece ≤ line-end piece → (lines-from begun piece ≡ []) × (rest-from begun piece ≡ begun ++ piece)
+pub no-line : (begun piece : List ℕ) → length piece ≤ line-end piece
+    → (lines-from begun piece ≡ []) × (rest-from begun piece ≡ begun ++ piece)
 no-line begun [] h = (lines-none begun, rest-none begun ∙ sym (append-nil begun))
 no-line begun (b ∷ xs) h = split (eqb b 10)
     (λ e. absurd (omega (arith, end-lf b xs e)))

@@ -1,17 +1,17 @@
 -- A line gathered from a piece: what the buffer then has of it.
 use mathlib.Core.Path.{_≡_, sym, _∙_, ap, ap₂}
-use mathlib.Core.Bool.{Bool, true, false, cond}
+use mathlib.Core.Bool.{Bool, cond}
 use mathlib.Core.List.{List, _++_, append-assoc}
 use Prim.Native.Nat.{ℕ, _+_, _-_, _<_, _≤_, min}
 use native.Mathlib.Omega.{arith}
 use lib.Dec.{leb, ltb}
 use lib.ListN.{length, take, drop, length-append, length-take}
 use lib.Seq.{take-all, take-take, take-append-le, take-append-add, length-take-le}
-use borrow.Author.Tests.{leb-true, leb-false, lt-ltb, le-ltb}
+use borrow.Author.Tests.{leb-true, leb-false}
 use Rattle.numerals.proofs.Digits.{split}
 use Rattle.text.specs.Placing.{placed, behind}
 use Rattle.text.proofs.Placing.{placed-fits, behind-fits}
-use Rattle.lines.specs.Reading.{line-end, line-with, gathering}
+use Rattle.lines.specs.Reading.{line-end, line-with, gathered-line, gathering}
 use Rattle.lines.proofs.Ends.{end-within}
 
 pub take-of-take : (m n : ℕ) (xs : List ℕ) → take m (take n xs) ≡ take (min n m) xs
@@ -34,44 +34,58 @@ clip-append c xs ys = split (leb (length xs) c)
     take-append-le c (take c xs) ys (omega (arith, length-take-le c xs (omega arith))) ∙ take-take c c xs (omega arith)
     ∙ sym (take-append-le c xs ys (omega arith)))
 
-module _ (line : List ℕ) (held : ℕ) (piece : List ℕ) (e h k : ℕ)
-    (he : e ≡ line-end piece) (hh : h ≡ min held (length line)) (hk : k ≡ min e (length line - h)) where
-  pub part-length : length (take k piece) ≡ k
-  part-length = length-take-le k piece (omega (arith, end-within piece))
+-- what `gather` reckons: where the piece's part of the line ends, where it goes in the buffer, and how much of it fits
+pub record Fit (line : List ℕ) (held : ℕ) (piece : List ℕ) (end start count : ℕ) : Type 0 where
+  pub ends : end ≡ line-end piece
+  pub starts : start ≡ min held (length line)
+  pub counts : count ≡ min end (length line - start)
 
-  with-is : line-with line held piece ≡ take h line ++ take k piece
+pub fit : (line : List ℕ) (held : ℕ) (piece : List ℕ) {end start count : ℕ} → end ≡ line-end piece → start ≡ min held (length line)
+    → count ≡ min end (length line - start) → Fit line held piece end start count
+fit line held piece e s c = record { ends = e; starts = s; counts = c }
+
+module _ {line : List ℕ} {held : ℕ} {piece : List ℕ} {end start count : ℕ} (f : Fit line held piece end start count) where
+  pub part-length : length (take count piece) ≡ count
+  part-length = length-take-le count piece (omega (arith, end-within piece))
+
+  with-is : line-with line held piece ≡ take start line ++ take count piece
   unfolding line-with
   with-is =
-      let n : length (take h line) ≡ h = length-take-le h line (omega arith) in
-      let c : length line ≡ length (take h line) + (length line - h) = omega arith in
-      ap₂ (λ (x y : List ℕ). take (length line) (x ++ y)) (take-clip held line ∙ ap (λ (i : ℕ). take i line) (sym hh)) (ap (λ (i : ℕ). take i piece) (sym he))
-      ∙ ap (λ (i : ℕ). take i (take h line ++ take e piece)) c
-      ∙ take-append-add (take h line) (take e piece) (length line - h)
-      ∙ ap (λ (x : List ℕ). take h line ++ x) (take-of-take (length line - h) e piece ∙ ap (λ (i : ℕ). take i piece) (sym hk))
+      let n : length (take start line) ≡ start = length-take-le start line (omega (arith, f .starts)) in
+      let c : length line ≡ length (take start line) + (length line - start) = omega arith in
+      ap₂ (λ (x y : List ℕ). take (length line) (x ++ y)) (take-clip held line ∙ ap (λ (i : ℕ). take i line) (sym (f .starts)))
+      (ap (λ (i : ℕ). take i piece) (sym (f .ends)))
+      ∙ ap (λ (i : ℕ). take i (take start line ++ take end piece)) c
+      ∙ take-append-add (take start line) (take end piece) (length line - start)
+      ∙ ap (λ (x : List ℕ). take start line ++ x)
+      (take-of-take (length line - start) end piece ∙ ap (λ (i : ℕ). take i piece) (sym (f .counts)))
 
-  with-length : length (line-with line held piece) ≡ h + k
-  with-length = ap length with-is ∙ omega (arith, length-append (take h line) (take k piece), length-take-le h line (omega arith), part-length)
+  with-length : length (line-with line held piece) ≡ start + count
+  with-length = ap length with-is
+      ∙ omega (arith, length-append (take start line) (take count piece), length-take-le start line (omega arith), part-length)
 
-  fits : h + length (take k piece) ≤ length line
+  fits : start + length (take count piece) ≤ length line
   fits = omega (arith, part-length)
 
-  pub holds : (r : ℕ) → r ≡ behind line h (take k piece) → r ≡ length (line-with line held piece)
-  holds r p = p ∙ behind-fits line h (take k piece) fits ∙ omega (arith, part-length, with-length)
+  holds : (r : ℕ) → r ≡ behind line start (take count piece) → r ≡ length (line-with line held piece)
+  holds r p = p ∙ behind-fits line start (take count piece) fits ∙ omega (arith, part-length, with-length)
 
-  pub gathers : (new : List ℕ) → new ≡ placed line h (take k piece)
+  gathers : (new : List ℕ) → new ≡ placed line start (take count piece)
       → new ≡ line-with line held piece ++ drop (length (line-with line held piece)) line
   gathers new w =
-      let n : h + length (take k piece) ≡ length (line-with line held piece) = omega (arith, part-length, with-length) in
-      w ∙ placed-fits line h (take k piece) fits ∙ sym (append-assoc (take h line) (take k piece) (drop (h + length (take k piece)) line))
+      let n : start + length (take count piece) ≡ length (line-with line held piece) = omega (arith, part-length, with-length) in
+      w ∙ placed-fits line start (take count piece) fits
+      ∙ sym (append-assoc (take start line) (take count piece) (drop (start + length (take count piece)) line))
       ∙ ap₂ (λ (x : List ℕ) (i : ℕ). x ++ drop i line) (sym with-is) n
 
-  gathered-as : (t : Bool) → ltb (line-end piece) (length piece) ≡ t → gathering line held piece
-      ≡ record { taken = cond t (line-end piece + 1) (line-end piece); held = length (line-with line held piece); ended = t }
+  pub gathered-is : {r : ℕ} {new : List ℕ} → (r ≡ behind line start (take count piece)) × (new ≡ placed line start (take count piece))
+      → (t : Bool) → ltb end (length piece) ≡ t
+      → (record { taken = cond t (end + 1) end; held = r; ended = ltb end (length piece) } ≡ gathering line held piece)
+      × (new ≡ gathered-line line held piece)
   unfolding gathering
-  gathered-as t q = ap (λ (s : Bool). record { taken = cond s (line-end piece + 1) (line-end piece); held = length (line-with line held piece); ended = s }) q
-
-  pub ended-is : (r : ℕ) → r ≡ length (line-with line held piece) → e < length piece → record { taken = e + 1; held = r; ended = true } ≡ gathering line held piece
-  ended-is r p l = ap₂ (λ (a b : ℕ). record { taken = a + 1; held = b; ended = true }) he p ∙ sym (gathered-as true (lt-ltb (line-end piece) (length piece) (omega arith)))
-
-  pub going-is : (r : ℕ) → r ≡ length (line-with line held piece) → length piece ≤ e → record { taken = e; held = r; ended = false } ≡ gathering line held piece
-  going-is r p l = ap₂ (λ (a b : ℕ). record { taken = a; held = b; ended = false }) he p ∙ sym (gathered-as false (le-ltb (line-end piece) (length piece) (omega arith)))
+  gathered-is {r} {new} put t e = (
+    ap (λ (s : Bool). record { taken = cond s (end + 1) end; held = r; ended = ltb end (length piece) }) (sym e)
+        ∙ ap₂ (λ (i k : ℕ). record { taken = cond (ltb i (length piece)) (i + 1) i; held = k; ended = ltb i (length piece) })
+        (f .ends) (holds r (put .0)),
+    gathers new (put .1),
+  )

@@ -1,5 +1,5 @@
 -- Hex digits: their values, runs of them, and digits two by two.
-use mathlib.Core.Path.{_≡_, refl, sym, _∙_, ap, ap₂}
+use mathlib.Core.Path.{_≡_, refl, sym, _∙_, ap, ap₂, subst}
 use mathlib.Core.Bool.{Bool, true, false, _&&_, _||_, cond}
 use mathlib.Core.List.{List, [], _∷_, _++_}
 use mathlib.Core.Logic.{_⊎_, inl, inr, ⊎-elim}
@@ -8,17 +8,18 @@ use Prim.Native.Nat.{ℕ, zero, suc, _+_, _-_, _*_, _/_, _%_, _<_, _≤_}
 use native.Mathlib.Numerals.{add-one}
 use native.Mathlib.Omega.{arith}
 use lib.Dec.{leb, ltb}
-use lib.ListN.{length, getD, drop}
+use lib.ListN.{length, getD, drop, set, length-set}
 use lib.Seq.{drop-cons}
 use borrow.Author.Tests.{leb-true, le-leb, lt-leb, lt-ltb, le-ltb}
 use Rattle.octets.specs.Bytes.{within, hex?, hex-value}
 use Rattle.numerals.specs.Numeral.{every}
 use Rattle.numerals.proofs.Digits.{split, at-true, at-false}
+use Rattle.text.proofs.Placing.{Front, front-on, front-all}
 use Rattle.lines.specs.Grammar.{DIGIT_LIMIT}
 use Rattle.lines.specs.helpers.Pairs.{pairs}
 use Rattle.lines.specs.declared.Hex.{Hex}
 use Rattle.lines.specs.declared.Hex.the-variants.{Bytes, Bad}
-use Rattle.lines.specs.Reading.{before, bytes-of, within-room, spelled, answer, filled}
+use Rattle.lines.specs.Reading.{byte-before, bytes-of, within-room, spelled, hex-answer, hex-output}
 
 pub false-true : {A : Type 0} → false ≡ true → A
 false-true e = let z : _≡_ {A = ℕ} 0 1 = cc in absurd (omega arith)
@@ -46,10 +47,12 @@ digit-value : (b : ℕ) → b ≤ 57 → hex-value b ≡ b - 48
 digit-value b h = at-true (leb b 57) (b - 48) (cond (leb b 70) (b - 55) (b - 87)) (le-leb b 57 h)
 
 capital-value : (b : ℕ) → 57 < b → b ≤ 70 → hex-value b ≡ b - 55
-capital-value b l h = at-false (leb b 57) (b - 48) (cond (leb b 70) (b - 55) (b - 87)) (lt-leb b 57 l) ∙ at-true (leb b 70) (b - 55) (b - 87) (le-leb b 70 h)
+capital-value b l h = at-false (leb b 57) (b - 48) (cond (leb b 70) (b - 55) (b - 87)) (lt-leb b 57 l)
+    ∙ at-true (leb b 70) (b - 55) (b - 87) (le-leb b 70 h)
 
 small-value : (b : ℕ) → 70 < b → hex-value b ≡ b - 87
-small-value b l = at-false (leb b 57) (b - 48) (cond (leb b 70) (b - 55) (b - 87)) (lt-leb b 57 (omega arith)) ∙ at-false (leb b 70) (b - 55) (b - 87) (lt-leb b 70 l)
+small-value b l = at-false (leb b 57) (b - 48) (cond (leb b 70) (b - 55) (b - 87)) (lt-leb b 57 (omega arith))
+    ∙ at-false (leb b 70) (b - 55) (b - 87) (lt-leb b 70 l)
 
 pub value-small : (b : ℕ) → hex? b ≡ true → hex-value b < 16
 unfolding hex?
@@ -96,7 +99,8 @@ pairs-length (a ∷ []) n e = absurd (omega arith)
 pairs-length (a ∷ b ∷ xs) zero e = absurd (omega arith)
 pairs-length (a ∷ b ∷ xs) (suc n) e = ap suc (pairs-length xs n (omega arith))
 
-pub pairs-at : (xs : List ℕ) (i : ℕ) → 2 * i + 1 < length xs → getD (pairs xs) i 0 ≡ hex-value (getD xs (2 * i) 0) * 16 + hex-value (getD xs (2 * i + 1) 0)
+pub pairs-at : (xs : List ℕ) (i : ℕ) → 2 * i + 1 < length xs
+    → getD (pairs xs) i 0 ≡ hex-value (getD xs (2 * i) 0) * 16 + hex-value (getD xs (2 * i + 1) 0)
 pairs-at [] i h = absurd (omega arith)
 pairs-at (a ∷ []) i h = absurd (omega arith)
 pairs-at (a ∷ b ∷ xs) zero h = refl
@@ -107,6 +111,15 @@ pairs-at (a ∷ b ∷ xs) (suc i) h =
     ∙ ap₂ (λ (m n : ℕ). hex-value (getD (a ∷ b ∷ xs) m 0) * 16 + hex-value (getD (a ∷ b ∷ xs) n 0)) j k
 
 -- ## What a line spells
+module _ (a b : ℕ) (xs : List ℕ) where
+  pub pair-good : (hex? a && hex? b) ≡ true → bytes-of (a ∷ b ∷ xs) ≡ byte-before (hex-value a * 16 + hex-value b) (bytes-of xs)
+  unfolding bytes-of
+  pair-good e = at-true (hex? a && hex? b) (byte-before (hex-value a * 16 + hex-value b) (bytes-of xs)) none e
+
+  pub pair-bad : (hex? a && hex? b) ≡ false → bytes-of (a ∷ b ∷ xs) ≡ none
+  unfolding bytes-of
+  pair-bad e = at-false (hex? a && hex? b) (byte-before (hex-value a * 16 + hex-value b) (bytes-of xs)) none e
+
 even-some : (xs : List ℕ) (n : ℕ) → length xs ≡ 2 * n → every hex? xs ≡ true → bytes-of xs ≡ some (pairs xs)
 unfolding bytes-of
 even-some [] n l e = refl
@@ -114,9 +127,8 @@ even-some (a ∷ []) n l e = absurd (omega arith)
 even-some (a ∷ b ∷ xs) zero l e = absurd (omega arith)
 even-some (a ∷ b ∷ xs) (suc n) l e =
     let t : every hex? (b ∷ xs) ≡ true = right (hex? a) (every hex? (b ∷ xs)) e in
-    at-true (hex? a && hex? b) (before (hex-value a * 16 + hex-value b) (bytes-of xs)) none
-    (ap₂ (λ (s u : Bool). s && u) (left (hex? a) (every hex? (b ∷ xs)) e) (left (hex? b) (every hex? xs) t))
-    ∙ ap (before (hex-value a * 16 + hex-value b)) (even-some xs n (omega arith) (right (hex? b) (every hex? xs) t))
+    pair-good a b xs (ap₂ (λ (s u : Bool). s && u) (left (hex? a) (every hex? (b ∷ xs)) e) (left (hex? b) (every hex? xs) t))
+    ∙ ap (byte-before (hex-value a * 16 + hex-value b)) (even-some xs n (omega arith) (right (hex? b) (every hex? xs) t))
 
 odd-none : (xs : List ℕ) (n : ℕ) → length xs ≡ 2 * n + 1 → bytes-of xs ≡ none
 unfolding bytes-of
@@ -124,19 +136,17 @@ odd-none [] n l = absurd (omega arith)
 odd-none (a ∷ []) n l = refl
 odd-none (a ∷ b ∷ xs) zero l = absurd (omega arith)
 odd-none (a ∷ b ∷ xs) (suc n) l = split (hex? a && hex? b)
-    (λ t. at-true (hex? a && hex? b) (before (hex-value a * 16 + hex-value b) (bytes-of xs)) none t
-    ∙ ap (before (hex-value a * 16 + hex-value b)) (odd-none xs n (omega arith)))
-    (λ t. at-false (hex? a && hex? b) (before (hex-value a * 16 + hex-value b) (bytes-of xs)) none t)
+    (λ t. pair-good a b xs t ∙ ap (byte-before (hex-value a * 16 + hex-value b)) (odd-none xs n (omega arith)))
+    (pair-bad a b xs)
 
 other-none : (xs : List ℕ) → every hex? xs ≡ false → bytes-of xs ≡ none
 unfolding bytes-of
 other-none [] e = false-true (sym e)
 other-none (a ∷ []) e = refl
 other-none (a ∷ b ∷ xs) e = split (hex? a && hex? b)
-    (λ t. at-true (hex? a && hex? b) (before (hex-value a * 16 + hex-value b) (bytes-of xs)) none t
-    ∙ ap (before (hex-value a * 16 + hex-value b))
-    (other-none xs (later (hex? a) (hex? b) (every hex? xs) t e)))
-    (λ t. at-false (hex? a && hex? b) (before (hex-value a * 16 + hex-value b) (bytes-of xs)) none t)
+    (λ t. pair-good a b xs t
+    ∙ ap (byte-before (hex-value a * 16 + hex-value b)) (other-none xs (later (hex? a) (hex? b) (every hex? xs) t e)))
+    (pair-bad a b xs)
   where
     later : (s t u : Bool) → (s && t) ≡ true → (s && (t && u)) ≡ false → u ≡ false
     later true true u f g = g
@@ -176,7 +186,9 @@ module _ (xs : List ℕ) (room : ℕ) where
 -- ## A loop over pairs
 module _ (xs : List ℕ) (e : every hex? xs ≡ true) where
   pub digit-below : (j r : ℕ) → j < length xs → r ≡ cond (hex? (getD xs j 0)) (hex-value (getD xs j 0)) 16 → r < 16
-  digit-below j r h v = omega (arith, value-is (getD xs j 0) r v (every-at hex? xs j e h), value-small (getD xs j 0) (every-at hex? xs j e h))
+  digit-below j r h v =
+      let t = every-at hex? xs j e h in
+      omega (arith, value-is (getD xs j 0) r v t, value-small (getD xs j 0) t)
 
   pub pair-is : (i j r s : ℕ) → j ≡ 2 * i → j + 1 < length xs
       → r ≡ cond (hex? (getD xs j 0)) (hex-value (getD xs j 0)) 16 → s ≡ cond (hex? (getD xs (j + 1) 0)) (hex-value (getD xs (j + 1) 0)) 16
@@ -187,14 +199,42 @@ module _ (xs : List ℕ) (e : every hex? xs ≡ true) where
       ∙ ap₂ (λ (a b : ℕ). a * 16 + b) (sym (value-is (getD xs j 0) r v (every-at hex? xs j e (omega arith))))
       (sym (value-is (getD xs (j + 1) 0) s w (every-at hex? xs (j + 1) e h)))
 
+-- the first k pairs are put
+pub record Filling (line old out : List ℕ) (k : ℕ) : Type 0 where
+  pub even : length out ≡ length old
+  pub twice : length line ≡ 2 * length old
+  pub count : length (pairs line) ≡ length old
+  pub front : Front old (pairs line) out k
+
+pub filling-start : {line old : List ℕ} → length line ≡ 2 * length old → Filling line old old 0
+filling-start {line} {old} e = record {
+  even = refl;
+  twice = e;
+  count = pairs-length line (length old) e;
+  front = record { is = refl; within = omega arith };
+}
+
+module _ {line old out : List ℕ} {k : ℕ} (h : Filling line old out k) where
+  pub filling-on : {b : ℕ} → k < length out → getD (pairs line) k 0 ≡ b → Filling line old (set out k b) (k + 1)
+  filling-on {b} lt e = record {
+    even = length-set out k b ∙ h .even;
+    twice = h .twice;
+    count = h .count;
+    front = subst (λ (c : ℕ). Front old (pairs line) (set out k c) (k + 1)) e
+        (front-on old (pairs line) out k (sym (h .count)) (h .front) (omega (arith, h .even, h .count)));
+  }
+
+  pub filling-all : length out ≤ k → out ≡ pairs line
+  filling-all ge = front-all old (pairs line) out k (sym (h .count)) (h .front) (omega (arith, h .even, h .count))
+
 -- ## What each answer has to show
 pub bad-is : (xs : List ℕ) (old : List ℕ) → spelled xs (length old) ≡ none
-    → (Bad ≡ answer (spelled xs (length old))) × (old ≡ filled (spelled xs (length old)) old)
-bad-is xs old e = (sym (ap answer e), sym (ap (λ (o : Option (List ℕ)). filled o old) e))
+    → (Bad ≡ hex-answer (spelled xs (length old))) × (old ≡ hex-output (spelled xs (length old)) old)
+bad-is xs old e = (sym (ap hex-answer e), sym (ap (λ (o : Option (List ℕ)). hex-output o old) e))
 
 pub good-is : (xs old part : List ℕ) (n : ℕ) → n ≡ length (pairs xs) → part ≡ pairs xs → spelled xs (length old) ≡ some (pairs xs)
-    → (Bytes n ≡ answer (spelled xs (length old))) × (part ++ drop n old ≡ filled (spelled xs (length old)) old)
+    → (Bytes n ≡ hex-answer (spelled xs (length old))) × (part ++ drop n old ≡ hex-output (spelled xs (length old)) old)
 good-is xs old part n k p e = (
-  ap Bytes k ∙ sym (ap answer e),
-  ap₂ (λ (y : List ℕ) (m : ℕ). y ++ drop m old) p k ∙ sym (ap (λ (o : Option (List ℕ)). filled o old) e),
+  ap Bytes k ∙ sym (ap hex-answer e),
+  ap₂ (λ (y : List ℕ) (m : ℕ). y ++ drop m old) p k ∙ sym (ap (λ (o : Option (List ℕ)). hex-output o old) e),
 )

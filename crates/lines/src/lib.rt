@@ -5,7 +5,7 @@ ghost use Prim.Native.Nat.{_*_, min};
 ghost use lib.ListN.{length};
 ghost use Rattle.octets.specs.Bytes.{hex?};
 ghost use Rattle.numerals.specs.Numeral.{every};
-ghost use Rattle.lines.specs.Reading.{line-end, gathered-line, gathering, spelled, answer, filled};
+ghost use Rattle.lines.specs.Reading.{line-end, gathered-line, gathering, spelled, hex-answer, hex-output};
 ghost use Rattle.lines.specs.helpers.Pairs.{pairs};
 
 // The most digits that a line may have.
@@ -26,17 +26,17 @@ pub enum Hex {
 }
 
 // The place of the first LF, or the length.
-pub fn line_end(s: &[u8]) -> usize
+fn line_end(s: &[u8]) -> usize
     ensures { λ r. ⌜ r ≡ line-end (now (s .entry)) ⌝ }
 {
-    let mut i = 0;
-    while i < s.len() {
-        if s[i] == 10 {
-            return i;
+    let mut at = 0;
+    while at < s.len() {
+        if s[at] == b'\n' {
+            return at;
         }
-        i += 1;
+        at += 1;
     }
-    i
+    at
 }
 
 // Adds the bytes of a piece, up to its LF, to the `held` bytes at the front of `line`. Those that do not fit are left out: a line that
@@ -45,29 +45,19 @@ pub fn gather(piece: &[u8], line: &mut [u8], held: usize) -> Gathered
     ensures answers { λ r. ⌜ r ≡ gathering (now (line .entry)) held (now (piece .entry)) ⌝ }
     ensures writes { λ _. ⌜ now (line .exit) ≡ gathered-line (now (line .entry)) held (now (piece .entry)) ⌝ }
 {
-    let e = line_end(piece);
-    let h = octets::least(held, line.len());
-    let k = octets::least(e, line.len() - h);
-    let held = text::put_bytes(&piece[..k], line, h);
-    if e < piece.len() {
-        Gathered {
-            taken: e + 1,
-            held,
-            ended: true,
-        }
-    } else {
-        Gathered {
-            taken: e,
-            held,
-            ended: false,
-        }
-    }
+    let end = line_end(piece);
+    let start = octets::least(held, line.len());
+    let count = octets::least(end, line.len() - start);
+    let held = text::put_bytes(&piece[..count], line, start);
+    let ended = end < piece.len();
+    let taken = if ended { end + 1 } else { end };
+    Gathered { taken, held, ended }
 }
 
 // Puts the bytes that a line spells at the front of `out`, and keeps the rest. A bad line leaves `out` as it was.
 pub fn from_hex(line: &[u8], out: &mut [u8]) -> Hex
-    ensures answers { λ r. ⌜ r ≡ answer (spelled (now (line .entry)) (length (now (out .entry)))) ⌝ }
-    ensures writes { λ _. ⌜ now (out .exit) ≡ filled (spelled (now (line .entry)) (length (now (out .entry)))) (now (out .entry)) ⌝ }
+    ensures answers { λ r. ⌜ r ≡ hex-answer (spelled (now (line .entry)) (length (now (out .entry)))) ⌝ }
+    ensures writes { λ _. ⌜ now (out .exit) ≡ hex-output (spelled (now (line .entry)) (length (now (out .entry)))) (now (out .entry)) ⌝ }
 {
     if line.len() > DIGIT_LIMIT {
         return Hex::Bad;
@@ -78,23 +68,23 @@ pub fn from_hex(line: &[u8], out: &mut [u8]) -> Hex
     if !all_hex(line) {
         return Hex::Bad;
     }
-    let n = line.len() / 2;
-    if n > out.len() {
+    let count = line.len() / 2;
+    if count > out.len() {
         return Hex::Bad;
     }
-    put_pairs(line, &mut out[..n]);
-    Hex::Bytes(n)
+    put_pairs(line, &mut out[..count]);
+    Hex::Bytes(count)
 }
 
 fn all_hex(line: &[u8]) -> bool
     ensures { λ r. ⌜ r ≡ every hex? (now (line .entry)) ⌝ }
 {
-    let mut i = 0;
-    while i < line.len() {
-        if octets::hex_value(line[i]) == 16 {
+    let mut at = 0;
+    while at < line.len() {
+        if octets::hex_value(line[at]) == 16 {
             return false;
         }
-        i += 1;
+        at += 1;
     }
     true
 }
@@ -104,11 +94,11 @@ fn put_pairs(line: &[u8], out: &mut [u8])
     requires { ⌜ (length (now line) ≡ 2 * length (now out)) × (every hex? (now line) ≡ true) ⌝ }
     ensures { λ _. ⌜ now (out .exit) ≡ pairs (now (line .entry)) ⌝ }
 {
-    let mut i = 0;
-    let mut j = 0;
-    while i < out.len() {
-        out[i] = octets::hex_value(line[j]) * 16 + octets::hex_value(line[j + 1]);
-        i += 1;
-        j += 2;
+    let mut at = 0;
+    let mut digit = 0;
+    while at < out.len() {
+        out[at] = octets::hex_value(line[digit]) * 16 + octets::hex_value(line[digit + 1]);
+        at += 1;
+        digit += 2;
     }
 }

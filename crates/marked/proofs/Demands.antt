@@ -1,16 +1,10 @@
--- Every marked case of document 01 holds of the definitions.
-use mathlib.Core.Path.{refl}
-use Rattle.grammar.specs.Grammar.{lower}
-use Rattle.octets.specs.Bytes.{digit?, letter?, hex?, token?}
-use Rattle.calendar.specs.Gregorian.{leap?, days-of-years, date?, time?}
-use Rattle.calendar.specs.Instants.{seconds-of}
-use Rattle.date.specs.Grammar.{full-year, fault-of}
-use Rattle.url.specs.Bytes.{host?, unreserved?, path?, query?}
-use Rattle.framing.specs.helpers.Machine.{lineStep, lineLive, lineEnds, leaveLine, enterChunk, step, live, done, pastRoom, over}
-use Rattle.framing.specs.helpers.Scan.{answer}
-use Rattle.framing.specs.Reading.{judge, decode}
+-- "Marked cases (*) go into a single table proved by one statement about the definitions": every one of them holds.
+use lib.ListN.{take, drop}
 use Rattle.marked.specs.Cases.{All, table}
+use Rattle.marked.proofs.Computed.{versions, dates, qvalues, urls, bodies, both}
 
 pub marked : All table
-unfolding lower digit? letter? hex? token? leap? days-of-years date? time? seconds-of full-year fault-of host? unreserved? path? query? lineStep lineLive lineEnds leaveLine enterChunk step live done pastRoom over answer judge decode
-marked = (refl, (refl, (refl, (refl, (refl, (refl, (refl, (refl, (refl, (refl, (refl, (refl, tt))))))))))))
+marked =
+    both (take 3 table) (drop 3 table) versions
+    (both (take 4 (drop 3 table)) (drop 7 table) dates
+    (both (take 2 (drop 7 table)) (drop 9 table) qvalues (both (take 1 (drop 9 table)) (drop 10 table) urls bodies)))

@@ -9,7 +9,6 @@ use Rattle.grammar.specs.Comparing.{outcome, compare}
 use Rattle.grammar.specs.Reading as Header
 use Rattle.grammar.specs.Reading.{value}
 use Rattle.grammar.specs.helpers.Judge.{header}
-use Rattle.version.specs.declared.Version.{Version}
 use Rattle.version.specs.declared.Order.the-variants.{Less}
 use Rattle.version.specs.Grammar as VersionGrammar
 use Rattle.version.specs.Reading.{precedence}
@@ -19,6 +18,7 @@ use Rattle.url.specs.Meaning.{pages, same-page}
 use Rattle.framing.specs.Answer.{whole, refused}
 use Rattle.framing.specs.Reading.{decode}
 use Rattle.grammar.specs.Text.{bytes}
+use Rattle.grammar.specs.Refusals.{MALFORMED, BODY_TOO_LARGE}
 
 pub data Case : Type 0 where
   version-is : (text : String) (major minor : ℕ) → Case
@@ -27,14 +27,16 @@ pub data Case : Type 0 where
   qvalue-is : (text : String) (thousandths : ℕ) → Case
   qvalue-refused : (text : String) (number place : ℕ) → Case
   urls-equal : (text other : String) → Case
-  body-whole : (room : ℕ) (text : String) (taken len : ℕ) → Case
+  body-whole : (room : ℕ) (text : String) (taken length : ℕ) → Case
   body-refused : (room : ℕ) (text : String) (number place : ℕ) → Case
 
 abbrev pub Holds : Case → Type 0
 Holds (version-is t m n) = header VersionGrammar.rules (bytes t) ≡ value (record { major = m; minor = n })
-Holds (version-below t u) = compare precedence (header VersionGrammar.rules (bytes t)) (header VersionGrammar.rules (bytes u)) ≡ outcome Less
+Holds (version-below t u) =
+    compare precedence (header VersionGrammar.rules (bytes t)) (header VersionGrammar.rules (bytes u)) ≡ outcome Less
 Holds (date-is t y m d h n s z) =
-    header DateGrammar.rules (bytes t) ≡ value (record { fields = record { year = y; month = m; day = d; hour = h; minute = n; second = s }; seconds = z })
+    header DateGrammar.rules (bytes t)
+    ≡ value (record { fields = record { year = y; month = m; day = d; hour = h; minute = n; second = s }; seconds = z })
 Holds (qvalue-is t q) = header QvalueGrammar.rules (bytes t) ≡ value q
 Holds (qvalue-refused t n p) = header QvalueGrammar.rules (bytes t) ≡ Header.refused n p
 Holds (urls-equal t u) = compare same-page (header pages (bytes t)) (header pages (bytes u)) ≡ outcome true
@@ -55,8 +57,8 @@ table =
     ∷ date-is "Sun Nov  6 08:49:37 1994" 1994 11 6 8 49 37 (pos 784111777)
     ∷ date-is "Wed, 31 Dec 1969 23:59:59 GMT" 1969 12 31 23 59 59 (negsuc 0)
     ∷ qvalue-is "0." 0
-    ∷ qvalue-refused "1.001" 1 4
+    ∷ qvalue-refused "1.001" MALFORMED 4
     ∷ urls-equal "http://abc.com:80/~smith/home.html" "http://ABC.com:/%7esmith/home.html"
     ∷ body-whole 0 "0\r\n\r\n" 5 0
-    ∷ body-refused 0 "1" 7 0
+    ∷ body-refused 0 "1" BODY_TOO_LARGE 0
     ∷ []

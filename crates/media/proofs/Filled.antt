@@ -4,16 +4,14 @@ use native.Mathlib.Omega.{arith}
 use mathlib.Core.Path.{_≡_, refl, sym, ap, ap₂, subst, _∙_}
 use mathlib.Core.List.{List, [], _∷_, _++_, append-nil}
 use lib.ListN.{length, take, set}
-use Rattle.grammar.specs.Grammar.{Part}
-use Rattle.grammar.specs.Reading.{Verdict, value, refused}
+use Rattle.grammar.specs.Reading.{value, refused}
 use Rattle.grammar.specs.helpers.Judge.{header}
 use Rattle.media.specs.declared.MediaType.{MediaType}
 use Rattle.media.specs.declared.Parameter.{Parameter}
 use Rattle.media.specs.declared.Outcome.the-variants as O
-use Rattle.media.specs.declared.Reading.{Reading}
-use Rattle.media.specs.Grammar.{Name, entries, kind, Media, media, rules, parameter-limit}
-use Rattle.media.specs.Reading.{padded, filled, table-of, verdict, Answered}
-use Rattle.media.specs.helpers.Scan.{counted, Before, Found, Read}
+use Rattle.media.specs.Grammar.{entries, kind, rules, parameter-limit}
+use Rattle.media.specs.Reading.{padded, filled, table-of, Answered}
+use Rattle.media.specs.helpers.Scan.{counted, Found, Read}
 use Rattle.media.proofs.Scan.{counted-in, no-more}
 
 padded-take : (n : ℕ) (ps : List Parameter) → length ps ≤ n → take (length ps) (padded n ps) ≡ ps
@@ -69,7 +67,6 @@ module _ {s : List ℕ} {m : MediaType} {t : List Parameter} {i : ℕ} (w : Fill
       no-more (w .found) h ∙ ap₂ (λ (n : MediaType) (ps : List Parameter). value (record { names = n; table = ps })) names-are others-are in
       (ap (λ (ps : List Parameter). value (record { names = m; table = ps })) entries-are ∙ sym e, w .is ∙ sym (ap table-of e))
 
-pub refused-answer : (s : List ℕ) {r : Reading} {n p : ℕ}
-    → r ≡ record { outcome = O.Refused (record { number = n; place = p }); parameters = filled [] }
-    → header rules s ≡ refused n p → Answered s r
-refused-answer s d e = (ap verdict d ∙ sym e, ap (λ (x : Reading). x .parameters) d ∙ sym (ap table-of e))
+pub refused-answer : (s : List ℕ) {n p : ℕ} → header rules s ≡ refused n p
+    → Answered s (record { outcome = O.Refused (record { number = n; place = p }); parameters = filled [] })
+refused-answer s e = (sym e, sym (ap table-of e))

@@ -1,12 +1,7 @@
+pub mod Parts
 pub mod Limits
 pub mod Scan
 pub mod Filled
-pub mod Plain
 pub mod Tables
-pub mod Compared
-pub mod Places
-pub mod Agreeing
-pub mod Effect
 pub mod Demands
 pub mod Examples
-pub mod EqualExamples

@@ -2,19 +2,19 @@
 use Prim.Native.Nat.{ℕ, suc, _+_, _-_, _≤_, _<_}
 use native.Mathlib.Omega.{arith}
 use borrow.Author.Tests.{eq-eqb, ne-eqb, lt-ltb, le-ltb}
-use mathlib.Core.Path.{_≡_, refl, sym, ap, ap₂, _∙_}
+use mathlib.Core.Path.{_≡_, refl, sym, ap, _∙_}
 use mathlib.Core.Bool.{Bool, true, false, cond, _&&_, _||_}
 use mathlib.Core.List.{List, [], _∷_, _++_, append-nil, append-assoc}
 use mathlib.Core.Option.{Option, none, some}
 use lib.Dec.{ltb, eqb}
-use lib.ListN.{length, length-append}
+use lib.ListN.{length}
 use Rattle.grammar.specs.Grammar.{Part, past}
 use Rattle.grammar.specs.Reading.{Limit, crowded, repeated}
 use Rattle.grammar.specs.helpers.Scans.{slice}
 use Rattle.grammar.proofs.Longest.{past-length}
 use Rattle.grammar.proofs.Pieces.{slice-length}
 use Rattle.media.specs.declared.Parameter.{Parameter}
-use Rattle.media.specs.Grammar.{Name, attribute, attribute?, attributes, among, repeats, limit, parameter-limit}
+use Rattle.media.specs.Grammar.{Name, attribute, attribute?, attributes, has-name, repeats, limit, parameter-limit}
 use Rattle.media.specs.helpers.Places.{names-at}
 use Rattle.media.specs.helpers.Scan.{texts}
 
@@ -63,19 +63,19 @@ names-length s [] = refl
 names-length s (p ∷ ps) = ap suc (names-length s ps)
 
 repeats-snoc : (k : ℕ) (before : List (List ℕ)) (cs : List (Part Name)) (a : Part Name)
-    → repeats k before (cs ++ a ∷ []) ≡ (repeats k before cs || (eqb (past (a .start) (a .text)) k && among (a .text) (before ++ texts cs)))
+    → repeats k before (cs ++ a ∷ []) ≡ (repeats k before cs || (eqb (past (a .start) (a .text)) k && has-name (a .text) (before ++ texts cs)))
 repeats-snoc k before [] a =
-    or-false _ ∙ ap (λ (ts : List (List ℕ)). eqb (past (a .start) (a .text)) k && among (a .text) ts) (sym (append-nil before))
+    or-false _ ∙ ap (λ (ts : List (List ℕ)). eqb (past (a .start) (a .text)) k && has-name (a .text) ts) (sym (append-nil before))
   where
     or-false : (x : Bool) → (x || false) ≡ x
     or-false true = refl
     or-false false = refl
 repeats-snoc k before (c ∷ cs) a =
-    ap (λ (x : Bool). (eqb (past (c .start) (c .text)) k && among (c .text) before) || x)
+    ap (λ (x : Bool). (eqb (past (c .start) (c .text)) k && has-name (c .text) before) || x)
     (repeats-snoc k (before ++ c .text ∷ []) cs a
-    ∙ ap (λ (ts : List (List ℕ)). repeats k (before ++ c .text ∷ []) cs || (eqb (past (a .start) (a .text)) k && among (a .text) ts))
+    ∙ ap (λ (ts : List (List ℕ)). repeats k (before ++ c .text ∷ []) cs || (eqb (past (a .start) (a .text)) k && has-name (a .text) ts))
     (append-assoc before (c .text ∷ []) (texts cs)))
-    ∙ or-assoc (eqb (past (c .start) (c .text)) k && among (c .text) before) (repeats k (before ++ c .text ∷ []) cs) _
+    ∙ or-assoc (eqb (past (c .start) (c .text)) k && has-name (c .text) before) (repeats k (before ++ c .text ∷ []) cs) _
   where
     or-assoc : (x y z : Bool) → (x || (y || z)) ≡ ((x || y) || z)
     or-assoc true y z = refl
@@ -94,5 +94,5 @@ module _ (s : List ℕ) (cs : List (Part Name)) (i e : ℕ) (a : i ≤ e) (b : e
   repeats-elsewhere k n q = repeats-snoc k [] cs named ∙ rw (q, ends-there, ne-eqb e k n)
 
   -- behind it
-  pub repeats-behind : repeats e [] cs ≡ false → repeats e [] (cs ++ named ∷ []) ≡ among (slice s i e) (texts cs)
+  pub repeats-behind : repeats e [] cs ≡ false → repeats e [] (cs ++ named ∷ []) ≡ has-name (slice s i e) (texts cs)
   repeats-behind q = repeats-snoc e [] cs named ∙ rw (q, ends-there, eq-eqb e e refl)

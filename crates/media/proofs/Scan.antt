@@ -1,5 +1,5 @@
 -- The reader's scans against the grammar: type and subtype, then parameter by parameter.
-use Prim.Native.Nat.{ℕ, zero, suc, _+_, _-_, _≤_, _<_}
+use Prim.Native.Nat.{ℕ, _+_, _-_, _≤_, _<_}
 use native.Mathlib.Omega.{arith}
 use borrow.Author.Tests.{eq-eqb, ne-eqb, eqb-true}
 use mathlib.Core.Path.{_≡_, refl, sym, ap, ap₂, subst, _∙_}
@@ -17,24 +17,27 @@ use Rattle.grammar.specs.helpers.Scans.{slice, from}
 use Rattle.grammar.proofs.Loop.{header-short}
 use Rattle.grammar.proofs.Pieces.{slice-length}
 use Rattle.grammar.proofs.Repeats.{may-end}
-use Rattle.grammar.proofs.Scans.{same-first, goes-on, breaks-off, stops-at, ends-early}
+use Rattle.grammar.proofs.Scans.{same-first, goes-on, breaks-off, ends-early}
 use Rattle.grammar.proofs.Scans.{part-plus, part-plus-none, part-plus-breaks, first-is, first-not, first-none}
 use Rattle.grammar.proofs.Skips.{skip-run}
 use Rattle.octets.specs.Bytes.{token?, blank?}
-use Rattle.octets.specs.Classes.{TOKEN, BLANK}
-use Rattle.octets.specs.Quoted.{QUOTE, quoted-text, quoted-end}
-use Rattle.octets.specs.helpers.Runs.{run-end}
+use Rattle.octets.specs.Classes.{TOKEN, BLANK, token}
+use Rattle.octets.specs.Quoted.{QUOTE, quoted-text}
 use Rattle.octets.proofs.Bytes.{told-apart}
-use Rattle.octets.proofs.Runs.{run-is}
+use Rattle.scans.specs.helpers.Quoted.{quoted-end}
+use Rattle.scans.specs.helpers.Runs.{run-end}
+use Rattle.scans.proofs.Runs.{run-is}
 use Rattle.scans.proofs.Quoted.{quoted-closed, quoted-bad, quoted-cut-off}
 use Rattle.media.specs.declared.MediaType.{MediaType}
 use Rattle.media.specs.declared.Parameter.{Parameter}
 use Rattle.media.specs.declared.Step.{Step}
 use Rattle.media.specs.declared.Step.the-variants.{Passed, Stopped}
-use Rattle.media.specs.Grammar.{Name, type, subtype, attribute, value, quoted, SLASH}
-use Rattle.media.specs.Grammar.{SEMICOLON, EQUALS, token, blanks, argument, parameters, media-type, attributes}
-use Rattle.media.specs.Grammar.{attribute?, quoted?, among, repeats, limit, parameter-limit, entry, entries, kind, media, rules}
-use Rattle.media.specs.helpers.Places.{part-at, names-at, Placed, PlacedParameter, PlacedTable}
+use Rattle.media.specs.Grammar.{Name, type, subtype, attribute, value, quoted-value, SLASH}
+use Rattle.media.specs.Grammar.{SEMICOLON, EQUALS, blanks, argument, parameters, attributes}
+use Rattle.media.specs.Grammar.{attribute?, quoted?, has-name, repeats, limit, parameter-limit, entry, entries, kind, rules}
+use Rattle.media.specs.Grammar.{part-at}
+use Rattle.media.specs.Places.{Placed, PlacedParameter}
+use Rattle.media.specs.helpers.Places.{names-at, PlacedTable}
 use Rattle.media.specs.helpers.Scan.{texts, counted, Before, parts, Found, NameAt, Attribute, Read, StepAt}
 use Rattle.media.proofs.Limits.{limit-crowded, limit-kept, attributes-with, attributes-without, limit-without}
 use Rattle.media.proofs.Limits.{texts-append, texts-length, names-length, repeats-elsewhere, repeats-behind}
@@ -127,7 +130,7 @@ no-quote j b e = go (token? b) refl
     go true f = rw (e, f)
     go false f = rw (e, f)
 
-quote-first : (j b : ℕ) → eqb b 34 ≡ true → deriv behind-equals j b ≡ part quoted quoted-text ⨾ byte QUOTE ⨾ parameters
+quote-first : (j b : ℕ) → eqb b 34 ≡ true → deriv behind-equals j b ≡ part quoted-value quoted-text ⨾ byte QUOTE ⨾ parameters
 quote-first j b e = rw (e, ap token? (eqb-true b 34 e) ∙ quote-no-token)
 
 -- ## Type and subtype
@@ -174,15 +177,15 @@ module _ (s : List ℕ) (short : length s ≤ 8192) where
         subtype-run = let w = run-is token? s (e + 1) (omega arith) in (omega (arith, g, w .ordered), omega (arith, g, w .within))
 
         abbrev names : MediaType
-        names = record { «type_start» = 0; «type_len» = e; «subtype_start» = e + 1; «subtype_len» = f - (e + 1); count = 0 }
+        names = record { «type_start» = 0; «type_length» = e; «subtype_start» = e + 1; «subtype_length» = f - (e + 1); count = 0 }
 
         names-are : kind type-part subtype-part 0 ≡ names
         names-are =
-            ap₂ (λ (x y : ℕ). record { «type_start» = 0; «type_len» = x; «subtype_start» = e + 1; «subtype_len» = y; count = 0 })
+            ap₂ (λ (x y : ℕ). record { «type_start» = 0; «type_length» = x; «subtype_start» = e + 1; «subtype_length» = y; count = 0 })
             (slice-length s 0 e (omega arith) (omega arith) ∙ omega arith) (slice-length s (e + 1) f (subtype-run .0) (subtype-run .1))
 
-        pub subtype-found : Found s names [] f
-        subtype-found = record {
+        found-behind : Found s names [] f
+        found-behind = record {
           before = record {
             first = type-part;
             second = subtype-part;
@@ -199,6 +202,11 @@ module _ (s : List ℕ) (short : length s ≤ 8192) where
               ∙ part-plus rules s (type-part ∷ []) subtype TOKEN parameters refl refl parameters-apart (e + 1) f
               (rw g (run-is token? s (e + 1) (omega arith))) (omega (arith, subtype-run .0)) (λ n x y. refl);
         }
+
+        pub subtype-found : Found s names [] ((e + 1) + (f - (e + 1)))
+        subtype-found =
+            let z : f ≡ (e + 1) + (f - (e + 1)) = omega (arith, subtype-run .0) in
+            subst (Found s names []) z found-behind
 
 -- ## A parameter
 
@@ -333,24 +341,24 @@ module _ {s : List ℕ} where
         equals-not h n = name-reads ∙ first-not rules s (ds ++ name equals ∷ []) EQUALS behind-equals refl equals h (ne-eqb (getD s equals 0) 61 n)
 
         module _ (there : equals < length s) (eq : getD s equals 0 ≡ 61) where
-          limit-there : (y : Bool) → y ≡ among (slice s start equals) (names-at s ps)
+          limit-there : (y : Bool) → y ≡ has-name (slice s start equals) (names-at s ps)
               → limit equals ((ds ++ name equals ∷ []) ++ []) ≡ cond y (some repeated) none
           limit-there y e =
               ap (limit equals) (append-nil (ds ++ name equals ∷ []))
               ∙ limit-kept equals (ds ++ name equals ∷ []) (omega (arith, count-with equals)) y
               (ap (repeats equals []) (attributes-with ds start (slice s start equals))
               ∙ repeats-behind s (attributes ds) start equals (name-run .0) (name-run .1) (x .before .unrepeated equals (name-run .0))
-              ∙ ap (among (slice s start equals)) (x .before .names) ∙ sym e)
+              ∙ ap (has-name (slice s start equals)) (x .before .names) ∙ sym e)
 
           equals-step : deriv behind-name equals (getD s equals 0) ≡ behind-equals
           equals-step = rw (eq-eqb (getD s equals 0) 61 eq)
 
-          pub name-repeated : true ≡ among (slice s start equals) (names-at s ps) → header rules s ≡ refused 11 equals
+          pub name-repeated : true ≡ has-name (slice s start equals) (names-at s ps) → header rules s ≡ refused 11 equals
           name-repeated e =
               name-reads ∙ breaks-off rules s (ds ++ name equals ∷ []) behind-name equals behind-equals there equals-step {x = repeated} refl
               (limit-there true e)
 
-          pub name-new : false ≡ among (slice s start equals) (names-at s ps) → Attribute s m ps start equals
+          pub name-new : false ≡ has-name (slice s start equals) (names-at s ps) → Attribute s m ps start equals
           name-new e = record {
             before = later (x .before) equals (name-run .0) (name-run .1);
             room = room;
@@ -368,7 +376,7 @@ module _ {s : List ℕ} where
 
 names-append : (s : List ℕ) (ps qs : List Parameter) → names-at s (ps ++ qs) ≡ names-at s ps ++ names-at s qs
 names-append s [] qs = refl
-names-append s (p ∷ ps) qs = ap (λ (ts : List (List ℕ)). part-at s (p .start) (p .len) ∷ ts) (names-append s ps qs)
+names-append s (p ∷ ps) qs = ap (λ (ts : List (List ℕ)). part-at s (p .start) (p .length) ∷ ts) (names-append s ps qs)
 
 placed-append : (s : List ℕ) (ps : List Parameter) (p : Parameter) → Placed s ps → PlacedParameter s p → Placed s (ps ++ p ∷ [])
 placed-append s [] p w x = (x, tt)
@@ -400,11 +408,11 @@ module _ {s : List ℕ} {m : MediaType} {ps : List Parameter} {i e : ℕ} (x : A
     val = record { label = l; start = b; text = slice s b f }
 
     abbrev read-one : Parameter
-    read-one = record { start = i; len = e - i; «value_start» = b; «value_len» = f - b; quoted = quoted? l }
+    read-one = record { start = i; length = e - i; «value_start» = b; «value_length» = f - b; quoted = quoted? l }
 
     entry-is : entry named val ≡ read-one
     entry-is =
-        ap₂ (λ (y z : ℕ). record { start = i; len = y; «value_start» = b; «value_len» = z; quoted = quoted? l })
+        ap₂ (λ (y z : ℕ). record { start = i; length = y; «value_start» = b; «value_length» = z; quoted = quoted? l })
         (slice-length s i e (x .ordered) (omega (arith, x .at))) (slice-length s b f bf (omega arith))
 
     all-parts : (parts s (x .before) ++ named ∷ []) ++ val ∷ [] ≡ parts s (x .before) ++ named ∷ val ∷ []
@@ -466,7 +474,7 @@ module _ {s : List ℕ} {m : MediaType} {ps : List Parameter} {i e : ℕ} (x : A
         (run-is token? s (e + 1) (omega arith)) (omega (arith, h))
 
     pub token-read : (f : ℕ) → f ≡ run-end token? s (e + 1) → (f ≡ e + 1 → ⊥)
-        → Read s m ps e (record { start = i; len = e - i; «value_start» = e + 1; «value_len» = f - (e + 1); quoted = false }) f
+        → Read s m ps e (record { start = i; length = e - i; «value_start» = e + 1; «value_length» = f - (e + 1); quoted = false }) f
     token-read f d n =
         let w = run-is token? s (e + 1) (omega arith) in
         let a : e + 1 ≤ f = omega (arith, d, w .ordered) in
@@ -478,27 +486,27 @@ module _ {s : List ℕ} {m : MediaType} {ps : List Parameter} {i e : ℕ} (x : A
   -- #### A quoted string
 
   module _ (at : e + 1 < length s) (yes-quote : getD s (e + 1) 0 ≡ 34) where
-    quote-begins : header rules s ≡ from rules s (ahead through (part quoted quoted-text ⨾ byte QUOTE ⨾ parameters)) (e + 2)
+    quote-begins : header rules s ≡ from rules s (ahead through (part quoted-value quoted-text ⨾ byte QUOTE ⨾ parameters)) (e + 2)
     quote-begins =
         let z : (e + 1) + 1 ≡ e + 2 = omega arith in
         x .reads
-        ∙ goes-on rules s through behind-equals (e + 1) (part quoted quoted-text ⨾ byte QUOTE ⨾ parameters) at
+        ∙ goes-on rules s through behind-equals (e + 1) (part quoted-value quoted-text ⨾ byte QUOTE ⨾ parameters) at
         (quote-first (e + 1) (getD s (e + 1) 0) (eq-eqb (getD s (e + 1) 0) 34 yes-quote)) refl
         (ap (limit (e + 1)) (append-nil through) ∙ through-quiet (e + 1) (omega arith))
-        ∙ ap (from rules s (ahead through (part quoted quoted-text ⨾ byte QUOTE ⨾ parameters))) z
+        ∙ ap (from rules s (ahead through (part quoted-value quoted-text ⨾ byte QUOTE ⨾ parameters))) z
 
-    calm : (k : ℕ) (t : List ℕ) → e + 2 ≤ k → limit k (through ++ record { label = quoted; start = e + 2; text = t } ∷ []) ≡ none
-    calm k t a = value-quiet quoted (e + 2) k t refl (omega arith)
+    calm : (k : ℕ) (t : List ℕ) → e + 2 ≤ k → limit k (through ++ record { label = quoted-value; start = e + 2; text = t } ∷ []) ≡ none
+    calm k t a = value-quiet quoted-value (e + 2) k t refl (omega arith)
 
     pub quote-cut-off : length s ≤ quoted-end s (e + 2) → header rules s ≡ refused 1 (quoted-end s (e + 2))
-    quote-cut-off h = quote-begins ∙ quoted-cut-off rules s through quoted parameters refl refl (e + 2) calm h
+    quote-cut-off h = quote-begins ∙ quoted-cut-off rules s through quoted-value parameters refl refl (e + 2) calm h
 
     pub quote-not : (getD s (quoted-end s (e + 2)) 0 ≡ 34 → ⊥) → header rules s ≡ refused 1 (quoted-end s (e + 2))
-    quote-not n = quote-begins ∙ quoted-bad rules s through quoted parameters refl refl (e + 2) calm n
+    quote-not n = quote-begins ∙ quoted-bad rules s through quoted-value parameters refl refl (e + 2) calm n
 
     pub quote-read : (f : ℕ) → f ≡ quoted-end s (e + 2) → f < length s → getD s f 0 ≡ 34
-        → Read s m ps e (record { start = i; len = e - i; «value_start» = e + 2; «value_len» = f - (e + 2); quoted = true }) (f + 1)
+        → Read s m ps e (record { start = i; length = e - i; «value_start» = e + 2; «value_length» = f - (e + 2); quoted = true }) (f + 1)
     quote-read f d a q =
-        value-read quoted (e + 2) f (f + 1) refl (omega (arith, d)) (omega arith) (omega (arith, d)) (omega arith)
+        value-read quoted-value (e + 2) f (f + 1) refl (omega (arith, d)) (omega arith) (omega (arith, d)) (omega arith)
         (quote-begins
-        ∙ rw d (quoted-closed rules s through quoted parameters refl refl (e + 2) calm (rw d at a) (rw d at q)))
+        ∙ rw d (quoted-closed rules s through quoted-value parameters refl refl (e + 2) calm (rw d at a) (rw d at q)))

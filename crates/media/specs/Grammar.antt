@@ -1,41 +1,38 @@
--- media-type = type "/" subtype *( ";" parameter ), parameter = attribute "=" value, value = token | quoted-string (RFC 2616 3.7 and 3.6), with
--- blanks around the semicolon only.
+-- media-type = type "/" subtype *( ";" parameter ), type = token, subtype = token (RFC 2616 3.7), parameter = attribute "=" value,
+-- attribute = token, value = token | quoted-string (RFC 2616 3.6); blanks stand around the semicolon only.
 use Prim.Native.Nat.{ℕ}
+use Prim.Native.Char.{code}
 use mathlib.Core.Bool.{Bool, true, false, cond, _&&_, _||_}
 use mathlib.Core.List.{List, [], _∷_, _++_}
 use mathlib.Core.Option.{Option, none, some}
 use lib.Dec.{ltb, eqb}
-use lib.ListN.{length}
-use Rattle.grammar.specs.Grammar.{Class, Part, Grammar, byte, _⨾_, _∣_, star, part, plus, just, past}
+use lib.ListN.{length, take, drop}
+use Rattle.grammar.specs.Grammar.{Class, Part, Grammar, byte, _⨾_, _∣_, star, part, just, past}
 use Rattle.grammar.specs.Reading.{Limit, crowded, repeated, Rules}
-use Rattle.octets.specs.Classes.{TOKEN, BLANK}
+use Rattle.octets.specs.Classes.{BLANK, token}
 use Rattle.octets.specs.Case.{alike}
 use Rattle.octets.specs.Quoted.{QUOTE, quoted-text}
 use Rattle.media.specs.declared.MediaType.{MediaType}
 use Rattle.media.specs.declared.Parameter.{Parameter}
 
--- The parts: a value is what stands between its quotes where it is quoted.
+-- The parts: a quoted value is what stands between its quotes.
 pub data Name : Type 0 where
-  type subtype attribute value quoted : Name
+  type subtype attribute value quoted-value : Name
 
--- / ; =
 abbrev pub SLASH : Class
-SLASH = just 47 tt
+SLASH = just (code "/") tt
 
 abbrev pub SEMICOLON : Class
-SEMICOLON = just 59 tt
+SEMICOLON = just (code ";") tt
 
 abbrev pub EQUALS : Class
-EQUALS = just 61 tt
-
-abbrev pub token : Grammar Name
-token = plus (byte TOKEN)
+EQUALS = just (code "=") tt
 
 abbrev pub blanks : Grammar Name
 blanks = star (byte BLANK)
 
 abbrev pub argument : Grammar Name
-argument = part value token ∣ (byte QUOTE ⨾ part quoted quoted-text ⨾ byte QUOTE)
+argument = part value token ∣ (byte QUOTE ⨾ part quoted-value quoted-text ⨾ byte QUOTE)
 
 abbrev pub parameter : Grammar Name
 parameter = blanks ⨾ byte SEMICOLON ⨾ blanks ⨾ part attribute token ⨾ byte EQUALS ⨾ argument
@@ -53,26 +50,28 @@ attribute? type = false
 attribute? subtype = false
 attribute? attribute = true
 attribute? value = false
-attribute? quoted = false
+attribute? quoted-value = false
 
 abbrev pub attributes : List (Part Name) → List (Part Name)
 attributes [] = []
 attributes (c ∷ ps) = cond (attribute? (c .label)) (c ∷ attributes ps) (attributes ps)
 
 -- one of the names is that one, letter case ignored
-abbrev pub among : List ℕ → List (List ℕ) → Bool
-among name [] = false
-among name (t ∷ names) = alike name t || among name names
+abbrev pub has-name : List ℕ → List (List ℕ) → Bool
+has-name name [] = false
+has-name name (t ∷ names) = alike name t || has-name name names
 
 -- the byte at k follows an attribute that is one of those before it
 abbrev pub repeats : (k : ℕ) (before : List (List ℕ)) → List (Part Name) → Bool
 repeats k before [] = false
-repeats k before (c ∷ cs) = (eqb (past (c .start) (c .text)) k && among (c .text) before) || repeats k (before ++ c .text ∷ []) cs
+repeats k before (c ∷ cs) =
+    (eqb (past (c .start) (c .text)) k && has-name (c .text) before) || repeats k (before ++ c .text ∷ []) cs
 
--- "more than 16 parameters": with the first byte of attribute 17; "attribute repeated, letter case ignored": at the `=` after the second
 abbrev pub parameter-limit : ℕ
 parameter-limit = 16
 
+-- "more than 16 parameters", at the "first byte of the 17th attribute"; "attribute repeated, letter case ignored", at "the `=` after the
+-- second"
 abbrev pub limit : ℕ → List (Part Name) → Option Limit
 limit k ps = cond (ltb parameter-limit (length (attributes ps))) (some crowded) (cond (repeats k [] (attributes ps)) (some repeated) none)
 
@@ -83,18 +82,19 @@ quoted? type = false
 quoted? subtype = false
 quoted? attribute = false
 quoted? value = false
-quoted? quoted = true
+quoted? quoted-value = true
 
 -- an attribute and its value
 abbrev pub entry : Part Name → Part Name → Parameter
 entry a v = record {
   start = a .start;
-  len = length (a .text);
+  length = length (a .text);
   «value_start» = v .start;
-  «value_len» = length (v .text);
+  «value_length» = length (v .text);
   quoted = quoted? (v .label);
 }
 
+-- of attributes and values in turn; no media type has an attribute without a value (`MediaParts`)
 abbrev pub entries : List (Part Name) → List Parameter
 entries [] = []
 entries (a ∷ []) = []
@@ -104,9 +104,9 @@ entries (a ∷ v ∷ ps) = entry a v ∷ entries ps
 abbrev pub kind : Part Name → Part Name → ℕ → MediaType
 kind t u n = record {
   «type_start» = t .start;
-  «type_len» = length (t .text);
+  «type_length» = length (t .text);
   «subtype_start» = u .start;
-  «subtype_len» = length (u .text);
+  «subtype_length» = length (u .text);
   count = n;
 }
 
@@ -116,8 +116,12 @@ pub record Media : Type 0 where
   pub table : List Parameter
 
 abbrev pub none-read : Media
-none-read = record { names = record { «type_start» = 0; «type_len» = 0; «subtype_start» = 0; «subtype_len» = 0; count = 0 }; table = [] }
+none-read = record {
+  names = record { «type_start» = 0; «type_length» = 0; «subtype_start» = 0; «subtype_length» = 0; count = 0 };
+  table = [];
+}
 
+-- every media type has a type and a subtype (`MediaParts`): no reading reaches the first two clauses
 abbrev pub media : List (Part Name) → Media
 media [] = none-read
 media (t ∷ []) = none-read
@@ -129,3 +133,7 @@ valued f = record { grammar = media-type; limit = limit; fault = λ ps. none; va
 
 abbrev pub rules : Rules Name Media
 rules = valued media
+
+-- the bytes of s from a start on, as many as a length says
+abbrev pub part-at : (s : List ℕ) (start size : ℕ) → List ℕ
+part-at s start size = take size (drop start s)

@@ -1,5 +1,5 @@
 pub mod Grammar
-pub mod Meaning
-pub mod Charset
+pub mod Parts
+pub mod Places
 pub mod Reading
 pub mod helpers

@@ -1,22 +1,17 @@
 -- Document 01's numbers and values for each case of the answers.
 use Prim.Native.Nat.{ℕ, zero, suc}
 use mathlib.Core.Path.{_≡_}
-use mathlib.Core.Bool.{Bool, true, false}
+use mathlib.Core.Bool.{false}
 use mathlib.Core.List.{List, [], _∷_}
 use lib.ListN.{take}
 use Rattle.grammar.specs.Reading as G
 use Rattle.grammar.specs.Reading.{Verdict}
 use Rattle.grammar.specs.helpers.Judge.{header}
-use Rattle.grammar.specs.Comparing.{Comparison, compare}
 use Rattle.media.specs.declared.Parameter.{Parameter}
 use Rattle.media.specs.declared.Outcome.{Outcome}
 use Rattle.media.specs.declared.Outcome.the-variants.{Read, Refused}
 use Rattle.media.specs.declared.Reading.{Reading}
-use Rattle.media.specs.declared.Charset.{Charset}
-use Rattle.media.specs.declared.Charset.the-variants as C
 use Rattle.media.specs.Grammar.{parameter-limit, Media, rules}
-use Rattle.media.specs.Meaning.{meanings, same-meaning}
-use Rattle.media.specs.Charset.{Effective, stated, latin-1, no-charset}
 
 abbrev pub outcome-verdict : Outcome → List Parameter → Verdict Media
 outcome-verdict (Read m) table = G.value (record { names = m; table = take (m .count) table })
@@ -27,7 +22,7 @@ verdict r = outcome-verdict (r .outcome) (r .parameters)
 
 -- "Unused entries of a returned table are zero."
 abbrev pub unused : Parameter
-unused = record { start = 0; len = 0; «value_start» = 0; «value_len» = 0; quoted = false }
+unused = record { start = 0; length = 0; «value_start» = 0; «value_length» = 0; quoted = false }
 
 -- so many entries: the parameters, then unused ones
 abbrev pub padded : ℕ → List Parameter → List Parameter
@@ -46,13 +41,3 @@ table-of (G.refused n p) = filled []
 -- the whole answer to s
 abbrev pub Answered : List ℕ → Reading → Type 0
 Answered s r = (verdict r ≡ header rules s) × (r .parameters ≡ table-of (header rules s))
-
--- "Comparisons of .. media types given as bytes do the same": it reads first one, then the other, and compares what they mean
-abbrev pub equality : (a b : List ℕ) → Comparison Bool
-equality a b = compare same-meaning (header meanings a) (header meanings b)
-
-abbrev pub charset-verdict : Charset → Verdict Effective
-charset-verdict (C.Stated a n q) = G.value (stated a n q)
-charset-verdict C.Latin1 = G.value latin-1
-charset-verdict C.NotStated = G.value no-charset
-charset-verdict (C.Refused r) = G.refused (r .number) (r .place)

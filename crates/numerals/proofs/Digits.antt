@@ -68,7 +68,8 @@ width-bound (suc j) base n b h = split (ltb n base)
     (λ e. omega (arith, width-small base n (ltb-true n base e)))
     (λ e. let le : base ≤ n = ltb-false n base e in
     let lt : n < 2 ^ suc j * base = omega (arith, pow-suc 2 (suc j), mul-le-mul-left (2 ^ suc j) b) in
-    omega (arith, width-large base n b le, width-bound j base (n / base) b (div-lt-iff-lt-mul {k = base} {x = n} {y = 2 ^ suc j} (omega arith) .1 lt)))
+    let less = div-lt-iff-lt-mul {k = base} {x = n} {y = 2 ^ suc j} (omega arith) .1 lt in
+    omega (arith, width-large base n b le, width-bound j base (n / base) b less))
 
 -- ## The digits
 pub digits-length : (base k n : ℕ) → length (digits base k n) ≡ k
@@ -102,7 +103,8 @@ unfolding numeral
 numeral-large base n b h = ap (λ (k : ℕ). digits base k n) (width-large base n b h) ∙ digits-suc base (width base (n / base)) n
 
 -- from n / base to n
-pub by-digits : (base : ℕ) → 2 ≤ base → (P : ℕ → Type 0) → ((n : ℕ) → n < base → P n) → ((n : ℕ) → base ≤ n → P (n / base) → P n) → (n : ℕ) → P n
+pub by-digits : (base : ℕ) → 2 ≤ base → (P : ℕ → Type 0) → ((n : ℕ) → n < base → P n) → ((n : ℕ) → base ≤ n → P (n / base) → P n) → (n : ℕ)
+    → P n
 by-digits base b P small large n = go n n (omega arith)
   where
     go : (steps n : ℕ) → n ≤ steps → P n
@@ -110,28 +112,29 @@ by-digits base b P small large n = go n n (omega arith)
     go (suc steps) n h = split (ltb n base) (λ e. small n (ltb-true n base e))
         (λ e. large n (ltb-false n base e) (go steps (n / base) (omega (arith, smaller base n b (ltb-false n base e)))))
 
--- ## A loop that spells from the last digit on
+-- ## A loop that puts digits from the last one on
 -- the digits from place i on are written, and `rest` has those before it
-pub record Spelled (base n : ℕ) (old new : List ℕ) (i rest : ℕ) : Type 0 where
+pub record LastDigits (base n : ℕ) (old new : List ℕ) (i rest : ℕ) : Type 0 where
   pub within : i ≤ length old
   pub is : new ≡ take i old ++ drop i (digits base (length old) n)
   pub ahead : take i (digits base (length old) n) ≡ digits base i rest
 
-pub spelled-none : (base n : ℕ) (old : List ℕ) → Spelled base n old old (length old) n
-spelled-none base n old = record {
+pub last-none : (base n : ℕ) (old : List ℕ) → LastDigits base n old old (length old) n
+last-none base n old = record {
   within = omega arith;
   is = sym (ap₂ (λ (y z : List ℕ). y ++ z) (take-all (length old) old (omega arith))
-      (drop-of-length-le (digits base (length old) n) {i = length old} (omega (arith, digits-length base (length old) n))) ∙ append-nil old);
+      (drop-of-length-le (digits base (length old) n) {i = length old} (omega (arith, digits-length base (length old) n)))
+      ∙ append-nil old);
   ahead = take-all (length old) (digits base (length old) n) (omega (arith, digits-length base (length old) n));
 }
 
-pub spelled-all : (base n : ℕ) (old new : List ℕ) (i rest : ℕ) → i ≤ 0 → Spelled base n old new i rest → new ≡ digits base (length old) n
-spelled-all base n old new zero rest e h = h .is
-spelled-all base n old new (suc i) rest e h = absurd (omega arith)
+pub last-all : (base n : ℕ) (old new : List ℕ) (i rest : ℕ) → i ≤ 0 → LastDigits base n old new i rest → new ≡ digits base (length old) n
+last-all base n old new zero rest e h = h .is
+last-all base n old new (suc i) rest e h = absurd (omega arith)
 
 module _ (base n : ℕ) (old new : List ℕ) where
-  pub spelled-length : (i rest : ℕ) → Spelled base n old new i rest → length new ≡ length old
-  spelled-length i rest h =
+  pub last-length : (i rest : ℕ) → LastDigits base n old new i rest → length new ≡ length old
+  last-length i rest h =
       let all : List ℕ = digits base (length old) n in
       omega (
         arith,
@@ -143,8 +146,8 @@ module _ (base n : ℕ) (old new : List ℕ) where
         digits-length base (length old) n,
       )
 
-  spelled-one : (j rest : ℕ) → Spelled base n old new (suc j) rest → Spelled base n old (set new j (glyph (rest % base))) j (rest / base)
-  spelled-one j rest h = record {
+  last-one : (j rest : ℕ) → LastDigits base n old new (suc j) rest → LastDigits base n old (set new j (glyph (rest % base))) j (rest / base)
+  last-one j rest h = record {
     within = omega (arith, h .within);
     is = ap (λ (z : List ℕ). set z j g) (h .is ∙ ap (λ (z : List ℕ). z ++ drop (suc j) all) (take-suc old j 0 (h .within))
         ∙ append-assoc (take j old) (getD old j 0 ∷ []) (drop (suc j) all))
@@ -170,11 +173,12 @@ module _ (base n : ℕ) (old new : List ℕ) where
       last = sym (getD-take (suc j) all j 0 (omega arith)) ∙ ap (λ (z : List ℕ). getD z j 0) front
           ∙ getD-at before g [] 0 j (digits-length base j (rest / base))
 
-  pub spelled-on : (i rest : ℕ) → 0 < i → Spelled base n old new i rest → Spelled base n old (set new (i - 1) (glyph (rest % base))) (i - 1) (rest / base)
-  spelled-on zero rest z h = absurd (omega arith)
-  spelled-on (suc j) rest z h =
+  pub last-on : (i rest : ℕ) → 0 < i → LastDigits base n old new i rest
+      → LastDigits base n old (set new (i - 1) (glyph (rest % base))) (i - 1) (rest / base)
+  last-on zero rest z h = absurd (omega arith)
+  last-on (suc j) rest z h =
       let e : j ≡ suc j - 1 = omega arith in
-      subst (λ (k : ℕ). Spelled base n old (set new k (glyph (rest % base))) k (rest / base)) e (spelled-one j rest h)
+      subst (λ (k : ℕ). LastDigits base n old (set new k (glyph (rest % base))) k (rest / base)) e (last-one j rest h)
 
 -- ## What stands in the lent bytes
 pub put-fits : (xs old : List ℕ) → length xs ≤ length old → put xs old ≡ xs ++ drop (length xs) old
@@ -187,14 +191,15 @@ put-short xs old h = at-false (leb (length xs) (length old)) (xs ++ drop (length
 
 pub glyph-below : (d : ℕ) → d < 10 → glyph d ≡ 48 + d
 unfolding glyph
-glyph-below d h = at-true (ltb d 10) (48 + d) (55 + d) (lt-ltb d 10 h)
+glyph-below d h = at-true (ltb d 10) (48 + d) (65 + (d - 10)) (lt-ltb d 10 h)
 
 pub glyph-above : (d : ℕ) → 10 ≤ d → glyph d ≡ 55 + d
 unfolding glyph
-glyph-above d h = at-false (ltb d 10) (48 + d) (55 + d) (le-ltb d 10 h)
+glyph-above d h = at-false (ltb d 10) (48 + d) (65 + (d - 10)) (le-ltb d 10 h) ∙ omega arith
 
--- the digits, spelled into a part of the lent bytes
-pub put-part : (base n k : ℕ) (old part : List ℕ) → k ≡ length (numeral base n) → k ≤ length old → part ≡ digits base (length (take k old)) n
+-- the digits, put into a part of the lent bytes
+pub put-part : (base n k : ℕ) (old part : List ℕ) → k ≡ length (numeral base n) → k ≤ length old
+    → part ≡ digits base (length (take k old)) n
     → part ++ drop k old ≡ put (numeral base n) old
 unfolding numeral
 put-part base n k old part e h p =

@@ -1,3 +1,4 @@
 pub mod Digits
+pub mod Made
 pub mod Demands
 pub mod Reading

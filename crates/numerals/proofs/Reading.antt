@@ -9,12 +9,13 @@ use mathlib.Core.Option.{Option, none}
 use lib.Dec.{ltb, leb}
 use lib.ListN.{length, drop}
 use lib.Seq.{drop-at}
-use Rattle.octets.specs.declared.Decimal.the-variants.{Number}
 use Rattle.octets.specs.Bytes.{digit?, hex-value}
-use Rattle.octets.specs.helpers.Runs.{run}
-use Rattle.octets.specs.Numbers.{grow, number-after, number, passing, number-from, decimal-of, decimal-at}
+use Rattle.octets.specs.Numbers.{grow, number-after, number}
 use Rattle.octets.proofs.Bytes.{digit-low, digit-high}
-use Rattle.octets.proofs.Spans.{span}
+use Rattle.octets.proofs.Spans.{by-range}
+use Rattle.scans.specs.declared.Decimal.the-variants.{Number}
+use Rattle.scans.specs.helpers.Runs.{run}
+use Rattle.scans.specs.helpers.Decimals.{passing, number-from, decimal-of, decimal-at}
 use Rattle.numerals.specs.Numeral.{glyph, numeral, value-from, every}
 use Rattle.numerals.proofs.Demands.{digits-only, some-digit, value}
 use Rattle.numerals.proofs.Digits.{glyph-below}
@@ -69,6 +70,11 @@ pub numeral-reads : (front rest : List ℕ) (n limit : ℕ) → n ≤ limit → 
     → decimal-at limit (front ++ (numeral 10 n ++ rest)) (length front) ≡ Number n (length front + length (numeral 10 n))
 unfolding decimal-at
 numeral-reads front rest n limit h s =
-    ap (λ (t : List ℕ). decimal-of (passing limit 0 (run digit? t)) (length front) (run digit? t)) (drop-at front (numeral 10 n ++ rest) (length front) refl)
+    ap (λ (t : List ℕ). decimal-of (passing limit 0 (run digit? t)) (length front) (run digit? t))
+    (drop-at front (numeral 10 n ++ rest) (length front) refl)
     ∙ ap (λ (t : List ℕ). decimal-of (passing limit 0 t) (length front) t) (run-all (numeral 10 n) rest (decimal-digits n) s)
-    ∙ rw (none-passes limit 0 (numeral 10 n) (omega (arith, numeral-number n)), ne-eqb (length front + length (numeral 10 n)) (length front) (λ e. omega (arith, some-digit 10 n (omega arith))), numeral-number n)
+    ∙ rw (
+      none-passes limit 0 (numeral 10 n) (omega (arith, numeral-number n)),
+      ne-eqb (length front + length (numeral 10 n)) (length front) (λ e. omega (arith, some-digit 10 n (omega arith))),
+      numeral-number n,
+    )

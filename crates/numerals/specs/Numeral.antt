@@ -1,5 +1,6 @@
 -- Numbers as text, in a base from 2 to 16: the fewest digits, in capitals. Definitions alone.
-use Prim.Native.Nat.{ℕ, zero, suc, _+_, _*_, _/_, _%_}
+use Prim.Native.Nat.{ℕ, zero, suc, _+_, _-_, _*_, _/_, _%_}
+use Prim.Native.Char.{code}
 use mathlib.Core.Bool.{Bool, true, cond, _&&_}
 use mathlib.Core.List.{List, [], _∷_, _++_}
 use lib.Dec.{ltb, leb}
@@ -8,7 +9,7 @@ use Rattle.octets.specs.Bytes.{hex-value}
 
 -- the byte of a digit: `0` to `9`, then `A` to `F`
 unfoldable pub glyph : ℕ → ℕ
-glyph d = cond (ltb d 10) (48 + d) (55 + d)
+glyph d = cond (ltb d 10) (code "0" + d) (code "A" + (d - 10))
 
 -- the last k digits of n, the first digit foremost
 unfoldable pub digits : ℕ → ℕ → ℕ → List ℕ

@@ -39,28 +39,28 @@ fn put_numeral(n: u64, base: u64, out: &mut [u8]) -> usize
     ensures counts { λ r. ⌜ r ≡ length (numeral base n) ⌝ }
     ensures writes { λ _. ⌜ now (out .exit) ≡ put (numeral base n) (now (out .entry)) ⌝ }
 {
-    let k = width(n, base);
-    if k <= out.len() {
-        spell(n, base, &mut out[..k]);
+    let count = width(n, base);
+    if count <= out.len() {
+        put_digits(n, base, &mut out[..count]);
     }
-    k
+    count
 }
 
 fn width(n: u64, base: u64) -> usize
     requires { ⌜ 2 ≤ base ⌝ }
     ensures { λ r. ⌜ r ≡ length (numeral base n) ⌝ }
 {
-    let mut k = 1;
+    let mut count = 1;
     let mut rest = n;
     while rest >= base {
         rest /= base;
-        k += 1;
+        count += 1;
     }
-    k
+    count
 }
 
 // Fills `out` with the last digits of `n`.
-fn spell(n: u64, base: u64, out: &mut [u8])
+fn put_digits(n: u64, base: u64, out: &mut [u8])
     requires { ⌜ (0 < base) × (base ≤ 16) ⌝ }
     ensures { λ _. ⌜ now (out .exit) ≡ digits base (length (now (out .entry))) n ⌝ }
 {
@@ -77,5 +77,9 @@ fn glyph(d: u64) -> u8
     requires { ⌜ d < 16 ⌝ }
     ensures { λ r. ⌜ r ≡ glyphOf d ⌝ }
 {
-    if d < 10 { 48 + d as u8 } else { 55 + d as u8 }
+    if d < 10 {
+        b'0' + d as u8
+    } else {
+        b'A' + (d - 10) as u8
+    }
 }

@@ -1,10 +1,7 @@
 pub mod Bytes
 pub mod Spans
 pub mod Tables
-pub mod Runs
-pub mod Case
-pub mod Numbers
-pub mod Quoted
+pub mod SameBy
 pub mod SameBytes
 pub mod Writing
 pub mod Alike

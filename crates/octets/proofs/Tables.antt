@@ -5,12 +5,12 @@ use mathlib.Core.List.{List, [], _∷_}
 use Prim.Native.Nat.{ℕ}
 use native.Mathlib.Omega.{arith}
 use Rattle.octets.specs.Bytes.{digit?, letter?, blank?, token?, content?, text?, escaped?}
-use Rattle.octets.specs.helpers.Runs.{member, Bits}
-use Rattle.octets.proofs.Spans.{values, span}
+use Rattle.octets.specs.helpers.Bits.{member, Bits}
+use Rattle.octets.proofs.Spans.{values, by-range}
 
 -- the bits of a test, where antt computes both alike
 pub bits : (words : List ℕ) (p : ℕ → Bool) → values (member words) 0 256 ≡ values p 0 256 → Bits words p
-bits words p e b h = span (member words) p 0 256 e b (omega arith) h
+bits words p e b h = by-range (member words) p 0 256 e b (omega arith) h
 
 pub digit-bits : Bits (0x3ff000000000000 ∷ 0 ∷ 0 ∷ 0 ∷ []) digit?
 unfolding digit?

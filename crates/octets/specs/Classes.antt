@@ -1,88 +1,67 @@
 -- The classes of bytes as grammars use them: only bytes are in each, and one is named that is.
 use Prim.Native.Nat.{ℕ}
-use mathlib.Core.List.{List, [], _∷_}
-use lib.Dec.{T, ltb}
+use Prim.Native.Char.{code}
+use mathlib.Core.Path.{_≡_, refl}
+use mathlib.Core.Bool.{Bool}
 use Rattle.grammar.specs.Grammar.{Class, Grammar, byte, plus, just}
 use Rattle.grammar.specs.Classes.{range, _or_, but}
+use Rattle.grammar.specs.Text.{bytes}
 use Rattle.octets.specs.Bytes.{digit?, letter?, hex?, blank?, separators, token?, text?, escaped?}
+use Rattle.octets.specs.helpers.Tests.{tested-below, tested-holds}
 
-pub digit-below : (b : ℕ) → T (digit? b) → T (ltb b 256)
-unfolding digit?
-digit-below b = range 48 57 tt .below b
+-- the class of the bytes that pass p, which is the test of c
+abbrev pub tested : (p : ℕ → Bool) (c : Class) → p ≡ c .has → Class
+tested p c e = record { has = p; below = tested-below p c e; some = c .some; holds = tested-holds p c e }
 
-pub digit-some : T (digit? 48)
+pub digit-is : digit? ≡ range (code "0") (code "9") tt .has
 unfolding digit?
-digit-some = tt
+digit-is = refl
 
 abbrev pub DIGIT : Class
-DIGIT = record { has = digit?; below = digit-below; some = 48; holds = digit-some }
+DIGIT = tested digit? (range (code "0") (code "9") tt) digit-is
 
-pub letter-below : (b : ℕ) → T (letter? b) → T (ltb b 256)
+pub letter-is : letter? ≡ (range (code "A") (code "Z") tt or range (code "a") (code "z") tt) .has
 unfolding letter?
-letter-below b = (range 65 90 tt or range 97 122 tt) .below b
-
-pub letter-some : T (letter? 97)
-unfolding letter?
-letter-some = tt
+letter-is = refl
 
 abbrev pub LETTER : Class
-LETTER = record { has = letter?; below = letter-below; some = 97; holds = letter-some }
+LETTER = tested letter? (range (code "A") (code "Z") tt or range (code "a") (code "z") tt) letter-is
 
-pub hex-below : (b : ℕ) → T (hex? b) → T (ltb b 256)
+pub hex-is : hex? ≡ (range (code "0") (code "9") tt or range (code "A") (code "F") tt or range (code "a") (code "f") tt) .has
 unfolding hex?
-hex-below b = (range 48 57 tt or range 65 70 tt or range 97 102 tt) .below b
-
-pub hex-some : T (hex? 48)
-unfolding hex?
-hex-some = tt
+hex-is = refl
 
 abbrev pub HEX : Class
-HEX = record { has = hex?; below = hex-below; some = 48; holds = hex-some }
+HEX = tested hex? (range (code "0") (code "9") tt or range (code "A") (code "F") tt or range (code "a") (code "f") tt) hex-is
 
-pub blank-below : (b : ℕ) → T (blank? b) → T (ltb b 256)
+pub blank-is : blank? ≡ (just (code " ") tt or just (code "\t") tt) .has
 unfolding blank?
-blank-below b = (just 32 tt or just 9 tt) .below b
-
-pub blank-some : T (blank? 32)
-unfolding blank?
-blank-some = tt
+blank-is = refl
 
 abbrev pub BLANK : Class
-BLANK = record { has = blank?; below = blank-below; some = 32; holds = blank-some }
+BLANK = tested blank? (just (code " ") tt or just (code "\t") tt) blank-is
 
-pub token-below : (b : ℕ) → T (token? b) → T (ltb b 256)
+pub token-is : token? ≡ but (range 33 126 tt) separators (code "a") tt .has
 unfolding token?
-token-below b = but (range 33 126 tt) separators 97 tt .below b
-
-pub token-some : T (token? 97)
-unfolding token?
-token-some = tt
+token-is = refl
 
 abbrev pub TOKEN : Class
-TOKEN = record { has = token?; below = token-below; some = 97; holds = token-some }
+TOKEN = tested token? (but (range 33 126 tt) separators (code "a") tt) token-is
 
 -- "**Token** (2.2): one or more of" these bytes
 abbrev pub token : {L : Type 0} → Grammar L
 token = plus (byte TOKEN)
 
-pub text-below : (b : ℕ) → T (text? b) → T (ltb b 256)
+pub text-is : text? ≡ (just (code "\t") tt or but (range 32 126 tt) (bytes "\"\\") (code "a") tt or range 128 255 tt) .has
 unfolding text?
-text-below b = but (just 9 tt or range 32 126 tt or range 128 255 tt) (34 ∷ 92 ∷ []) 97 tt .below b
-
-pub text-some : T (text? 97)
-unfolding text?
-text-some = tt
+text-is = refl
 
 abbrev pub TEXT : Class
-TEXT = record { has = text?; below = text-below; some = 97; holds = text-some }
+TEXT = tested text? (just (code "\t") tt or but (range 32 126 tt) (bytes "\"\\") (code "a") tt or range 128 255 tt) text-is
 
-pub escaped-below : (b : ℕ) → T (escaped? b) → T (ltb b 256)
+pub escaped-is : escaped? ≡ (just (code "\t") tt or range 32 126 tt) .has
 unfolding escaped?
-escaped-below b = (just 9 tt or range 32 126 tt) .below b
-
-pub escaped-some : T (escaped? 97)
-unfolding escaped?
-escaped-some = tt
+escaped-is = refl
 
 abbrev pub ESCAPED : Class
-ESCAPED = record { has = escaped?; below = escaped-below; some = 97; holds = escaped-some }
+ESCAPED = tested escaped? (just (code "\t") tt or range 32 126 tt) escaped-is

@@ -6,6 +6,7 @@ use lib.Dec.{ltb}
 use lib.ListN.{length, drop}
 use Rattle.grammar.specs.Reading as G
 use Rattle.grammar.specs.Reading.{Verdict}
+use Rattle.grammar.specs.Refusals.{OUT_OF_RANGE, OUTPUT_TOO_SHORT}
 use Rattle.octets.specs.declared.Written.{Written}
 use Rattle.octets.specs.declared.Written.the-variants.{Length, Refused}
 
@@ -21,4 +22,5 @@ output (G.refused n p) text old = old
 
 -- the answer of a writer of that text in a room: 9 for an argument outside its range, then 8 for a short output, each at place 0
 abbrev pub writing : Bool → List ℕ → ℕ → Verdict ℕ
-writing outside text room = cond outside (G.refused 9 0) (cond (ltb room (length text)) (G.refused 8 0) (G.value (length text)))
+writing outside text room =
+    cond outside (G.refused OUT_OF_RANGE 0) (cond (ltb room (length text)) (G.refused OUTPUT_TOO_SHORT 0) (G.value (length text)))

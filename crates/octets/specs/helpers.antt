@@ -1,3 +1,4 @@
 -- For the contracts of helpers and for proofs. Nothing here has to be believed.
-pub mod Runs
+pub mod Tests
+pub mod Bits
 pub mod Shapes

@@ -1,45 +1,53 @@
-// The basic rules of RFC 2616 2.2 as document 01 states them: classes of bytes, letter case, decimal numbers under a limit.
+// The basic rules of RFC 2616 2.2 as document 01 states them: classes of bytes, letter case.
 ghost use mathlib.Core.Path.{_≡_};
-ghost use mathlib.Core.Bool.{Bool, cond};
-ghost use Prim.Native.Nat.{ℕ, _+_, _*_, min};
-ghost use lib.Dec.{leb};
-ghost use lib.ListN.{drop};
+ghost use mathlib.Core.Bool.{cond};
+ghost use Prim.Native.Nat.{min};
 ghost use Rattle.grammar.specs.Grammar.{lower};
-ghost use Rattle.octets.specs.Bytes.{digit?, letter?, blank?, token?, content?, text?, escaped?, hex?, hex-value};
-ghost use Rattle.octets.specs.helpers.Runs.{member, Bits, run-end};
-ghost use Rattle.octets.specs.Numbers.{number-from, decimal-at};
-ghost use Rattle.octets.specs.Case.{alike, agreeing};
-ghost use Rattle.octets.specs.Quoted.{quoted-end};
+ghost use Rattle.octets.specs.Bytes.{digit?, token?, content?, text?, escaped?, hex?, hex-value};
+ghost use Rattle.octets.specs.helpers.Bits.{member};
+ghost use Rattle.octets.specs.Case.{alike};
 ghost use Rattle.octets.specs.Same.{same?};
 
 // The longest header value.
 pub const VALUE_LIMIT: usize = 8192;
 
-// Document 01's refusal numbers.
+// Document 01's refusal numbers. Malformed; place: the length of the longest beginning that some continuation completes.
 pub const MALFORMED: u8 = 1;
 
-pub const ABOVE_LIMIT: u8 = 2;
+// Number above its limit; place: the digit that passes it.
+pub const NUMBER_ABOVE_LIMIT: u8 = 2;
 
+// No such date or time; place: 0.
 pub const NO_SUCH_DATE: u8 = 3;
 
-pub const WRONG_DAY: u8 = 4;
+// The day name disagrees with the date; place: 0.
+pub const WRONG_DAY_NAME: u8 = 4;
 
+// Chunk line above 1,024 bytes; place: its byte 1,025.
 pub const LINE_TOO_LONG: u8 = 5;
 
+// Trailer above 8,192 bytes; place: its byte 8,193.
 pub const TRAILER_TOO_LONG: u8 = 6;
 
+// Body larger than the room (reader; place: the size digit), or above 1,073,741,824 bytes (writer; place: 0).
 pub const BODY_TOO_LARGE: u8 = 7;
 
+// Lent output too short; place: 0.
 pub const OUTPUT_TOO_SHORT: u8 = 8;
 
+// Argument outside its range; place: 0.
 pub const OUT_OF_RANGE: u8 = 9;
 
+// More than 16 parameters; place: first byte of the 17th attribute.
 pub const TOO_MANY_PARAMETERS: u8 = 10;
 
+// Attribute repeated, letter case ignored; place: the `=` after the second.
 pub const REPEATED_ATTRIBUTE: u8 = 11;
 
-pub const NESTED_TOO_DEEP: u8 = 12;
+// Comment nested deeper than 8; place: the ninth open parenthesis.
+pub const COMMENT_TOO_DEEP: u8 = 12;
 
+// Header value above 8,192 bytes; place: 8,192.
 pub const VALUE_TOO_LONG: u8 = 13;
 
 // Why an input was refused: document 01's number, and the place it names, counted from 0.
@@ -69,31 +77,30 @@ pub enum Compared {
     SecondRefused(Refusal),
 }
 
-// A run of decimal digits under a limit: the number and the place behind the run; the digit that passes the limit; no digit.
-pub enum Decimal {
-    Number { value: u64, end: usize },
-    Above { place: usize, end: usize },
-    Missing,
-}
-
 // A class as bits: byte b is bit b % 64 of word b / 64.
 pub type Class = [u64; 4];
 
+// 0 to 9.
 pub const DIGIT: Class = [0x3ff000000000000, 0, 0, 0];
 
+// A to Z, a to z.
 pub const LETTER: Class = [0, 0x7fffffe07fffffe, 0, 0];
 
+// SP, HT.
 pub const BLANK: Class = [0x100000200, 0, 0, 0];
 
+// The bytes of a token: 33 to 126 without `( ) < > @ , ; : \ " / [ ] ? = { }`.
 pub const TOKEN: Class = [0x3ff6cfa00000000, 0x57ffffffc7fffffe, 0, 0];
 
-pub const CONTENT: Class = [
+// The bytes of a trailer line's value: HT, 32 to 126, 128 to 255.
+const CONTENT: Class = [
     0xffffffff00000200,
     0x7fffffffffffffff,
     0xffffffffffffffff,
     0xffffffffffffffff,
 ];
 
+// The bytes of a quoted string that stand for themselves: HT, 32 to 126 without `"` and `\`, 128 to 255.
 pub const TEXT: Class = [
     0xfffffffb00000200,
     0x7fffffffefffffff,
@@ -101,7 +108,8 @@ pub const TEXT: Class = [
     0xffffffffffffffff,
 ];
 
-pub const ESCAPED: Class = [0xffffffff00000200, 0x7fffffffffffffff, 0, 0];
+// The bytes that may follow the `\` of a pair: HT, 32 to 126.
+const ESCAPED: Class = [0xffffffff00000200, 0x7fffffffffffffff, 0, 0];
 
 // Is the byte in the class?
 pub fn in_class(class: Class, b: u8) -> bool
@@ -115,18 +123,6 @@ pub fn is_digit(b: u8) -> bool
     ensures { λ r. ⌜ r ≡ digit? b ⌝ }
 {
     in_class(DIGIT, b)
-}
-
-pub fn is_letter(b: u8) -> bool
-    ensures { λ r. ⌜ r ≡ letter? b ⌝ }
-{
-    in_class(LETTER, b)
-}
-
-pub fn is_blank(b: u8) -> bool
-    ensures { λ r. ⌜ r ≡ blank? b ⌝ }
-{
-    in_class(BLANK, b)
 }
 
 // A byte of a token.
@@ -161,18 +157,18 @@ pub fn is_escaped(b: u8) -> bool
 pub fn hex_value(b: u8) -> u8
     ensures { λ r. ⌜ r ≡ cond (hex? b) (hex-value b) 16 ⌝ }
 {
-    if b < 48 {
+    if b < b'0' {
         16
-    } else if b <= 57 {
-        b - 48
-    } else if b < 65 {
+    } else if b <= b'9' {
+        b - b'0'
+    } else if b < b'A' {
         16
-    } else if b <= 70 {
-        b - 55
-    } else if b < 97 {
+    } else if b <= b'F' {
+        b - (b'A' - 10)
+    } else if b < b'a' {
         16
-    } else if b <= 102 {
-        b - 87
+    } else if b <= b'f' {
+        b - (b'a' - 10)
     } else {
         16
     }
@@ -182,27 +178,13 @@ pub fn hex_value(b: u8) -> u8
 pub fn lower_case(b: u8) -> u8
     ensures { λ r. ⌜ r ≡ lower b ⌝ }
 {
-    if b < 65 {
+    if b < b'A' {
         b
-    } else if b <= 90 {
+    } else if b <= b'Z' {
         b + 32
     } else {
         b
     }
-}
-
-// The place behind the run of bytes of a class that stands at `from`.
-pub fn class_end(class: Class, s: &[u8], from: usize) -> usize
-    ensures { λ r. ⌜ ((p : ℕ → Bool) → Bits class p → r ≡ run-end p (now (s .entry)) from) ⌝ }
-{
-    let mut i = from;
-    while i < s.len() {
-        if !in_class(class, s[i]) {
-            return i;
-        }
-        i += 1;
-    }
-    i
 }
 
 // Are two parts the same, letter case ignored?
@@ -220,91 +202,6 @@ pub fn same_ignoring_case(a: &[u8], b: &[u8]) -> bool
         i += 1;
     }
     true
-}
-
-// How many bytes at `from` are those of the word, letter case ignored.
-pub fn word_at(word: &[u8], s: &[u8], from: usize) -> usize
-    ensures { λ r. ⌜ r ≡ agreeing (now (word .entry)) (drop from (now (s .entry))) ⌝ }
-{
-    let mut i = 0;
-    let mut j = from;
-    while i < word.len() {
-        if s.len() <= j {
-            return i;
-        }
-        if lower_case(s[j]) != lower_case(word[i]) {
-            return i;
-        }
-        i += 1;
-        j += 1;
-    }
-    i
-}
-
-// Does the number with one more digit stay within the limit?
-fn fits(value: u64, digit: u64, limit: u64) -> bool
-    ensures { λ r. ⌜ r ≡ leb (value * 10 + digit) limit ⌝ }
-{
-    if value > limit / 10 {
-        return false;
-    }
-    digit <= limit - value * 10
-}
-
-// The digits from `from` to `end` make that number.
-fn found(value: u64, from: usize, end: usize) -> Decimal
-    ensures { λ r. ⌜ r ≡ number-from value from end ⌝ }
-{
-    if end == from {
-        Decimal::Missing
-    } else {
-        Decimal::Number { value, end }
-    }
-}
-
-// The decimal number that stands at `from`, under a limit. No sum passes the limit, so that none wraps.
-pub fn read_decimal(s: &[u8], from: usize, limit: u64) -> Decimal
-    ensures { λ r. ⌜ r ≡ decimal-at limit (now (s .entry)) from ⌝ }
-{
-    let mut value: u64 = 0;
-    let mut i = from;
-    while i < s.len() {
-        let b = s[i];
-        if !is_digit(b) {
-            return found(value, from, i);
-        }
-        let digit = (b - 48) as u64;
-        if fits(value, digit, limit) {
-            value = value * 10 + digit;
-        } else {
-            return Decimal::Above {
-                place: i,
-                end: class_end(DIGIT, s, i),
-            };
-        }
-        i += 1;
-    }
-    found(value, from, i)
-}
-
-// The place where the text and pairs of a quoted string, which stand at `from`, stop: where its closing quote has to be.
-pub fn quoted_end(s: &[u8], from: usize) -> usize
-    ensures { λ r. ⌜ r ≡ quoted-end (now (s .entry)) from ⌝ }
-{
-    let mut i = class_end(TEXT, s, from);
-    while i < s.len() {
-        if s[i] != b'\\' {
-            return i;
-        }
-        if s.len() <= i + 1 {
-            return i + 1;
-        }
-        if !is_escaped(s[i + 1]) {
-            return i + 1;
-        }
-        i = class_end(TEXT, s, i + 2);
-    }
-    i
 }
 
 // The smaller of two numbers.

@@ -1,12 +1,12 @@
 -- The reader of comments against the grammar: text, pairs, comments within comments, the `)`.
 use Prim.Native.Nat.{ℕ, zero, suc, _+_, _-_, _≤_, _<_, max}
 use native.Mathlib.Omega.{arith}
+use native.Mathlib.Numerals.{add-one}
 use borrow.Author.Tests.{ne-eqb, lt-ltb, le-ltb}
 use mathlib.Core.Path.{_≡_, refl, sym, ap, subst, _∙_}
-use mathlib.Core.Bool.{Bool, true, false, true≢false}
+use mathlib.Core.Bool.{true, false}
 use mathlib.Core.List.{List, [], _∷_, _++_, append-nil, append-assoc}
 use mathlib.Core.Option.{none, some}
-use lib.Dec.{eqb}
 use lib.ListN.{length, getD}
 use Rattle.grammar.specs.Grammar.{Part, Grammar, void, empty, byte, nest, just}
 use Rattle.grammar.specs.helpers.Derivative.{live, deriv, then}
@@ -17,7 +17,7 @@ use Rattle.grammar.specs.helpers.Scans.{from}
 use Rattle.grammar.proofs.Nested.{level-opens, level-breaks, level-ends, level-closes, level-fails, level-item, level-cut-off, pair-begins, pair-ends, pair-fails, pair-cut-off}
 use Rattle.octets.specs.Bytes.{escaped?}
 use Rattle.octets.specs.Classes.{ESCAPED}
-use Rattle.octets.specs.helpers.Runs.{Bits}
+use Rattle.octets.specs.helpers.Bits.{Bits}
 use Rattle.octets.proofs.Tables.{bits}
 use Rattle.octets.proofs.Bytes.{told-apart}
 use Rattle.products.specs.declared.Products.{Products}
@@ -217,7 +217,7 @@ module _ (s : List ℕ) where
     pub comment-reads : (e h : ℕ) → ContentRead s (i + 1) a e h → CommentRead s i (suc a) (e + 1) (h + 1)
     comment-reads e h w = record {
       parts = opening s i ∷ (w .passed .parts ++ closing s e ∷ []);
-      whole = comment-whole s i e (w .passed .parts) h (w .passed .enclosed);
+      whole = rw add-one (comment-whole i e (getD s i 0 ∷ []) (getD s e 0 ∷ []) (w .passed .parts) h (w .passed .enclosed));
       shallow = omega (arith, w .passed .shallow);
       forward = omega (arith, w .passed .ordered);
       inside = omega (arith, w .within-it);

@@ -4,8 +4,8 @@ use native.Mathlib.Omega.{arith}
 use mathlib.Core.Path.{_≡_, refl, ap, _∙_}
 use mathlib.Core.List.{List, [], _∷_, _++_}
 use Rattle.grammar.specs.Grammar.{Part}
-use Rattle.products.specs.Counting.{Name, level-behind, levels, product-count, outermost, deepest}
-use Rattle.products.specs.helpers.Scan.{Enclosed, Whole, opening, closing}
+use Rattle.products.specs.Counting.{Name, opened, closed, level-behind, levels, product-count, outermost, deepest}
+use Rattle.products.specs.helpers.Scan.{Enclosed, Whole}
 
 pub levels-append : (n : ℕ) (ps qs : List (Part Name)) → levels n (ps ++ qs) ≡ levels (levels n ps) qs
 levels-append n [] qs = refl
@@ -30,7 +30,7 @@ deepest-append n (c ∷ ps) qs = omega (arith, deepest-append (level-behind (c .
 -- ## Comments
 
 pub nothing-enclosed : Enclosed [] 0
-nothing-enclosed = record { even = λ n. refl; inner = λ n. refl; depth = λ n. omega arith; plain = refl }
+nothing-enclosed = record { even = λ n. refl; inner = λ n. refl; depth = λ n. omega arith; no-products = refl }
 
 -- a comment behind what a comment holds already
 pub enclosed-more : (ps qs : List (Part Name)) (h k : ℕ) → Enclosed ps h → Whole qs k → Enclosed (ps ++ qs) (max h k)
@@ -40,27 +40,47 @@ enclosed-more ps qs h k a w = record {
       outermost-append (suc n) ps qs ∙ ap (λ (m : ℕ). outermost (suc n) ps + outermost m qs) (a .even n) ∙ omega (arith, a .inner n, w .inner n);
   depth = λ n.
       deepest-append (suc n) ps qs ∙ ap (λ (m : ℕ). max (deepest (suc n) ps) (deepest m qs)) (a .even n) ∙ omega (arith, a .depth n, w .depth (suc n));
-  plain = product-append ps qs ∙ omega (arith, a .plain, w .plain);
+  no-products = product-append ps qs ∙ omega (arith, a .no-products, w .no-products);
 }
 
+-- what a comment holds already, behind a comment
+pub enclosed-behind : (ps qs : List (Part Name)) (h k : ℕ) → Whole ps h → Enclosed qs k → Enclosed (ps ++ qs) (max h k)
+enclosed-behind ps qs h k w a = record {
+  even = λ n. levels-append (suc n) ps qs ∙ ap (λ (m : ℕ). levels m qs) (w .even (suc n)) ∙ a .even n;
+  inner = λ n.
+      outermost-append (suc n) ps qs ∙ ap (λ (m : ℕ). outermost (suc n) ps + outermost m qs) (w .even (suc n))
+      ∙ omega (arith, w .inner n, a .inner n);
+  depth = λ n.
+      deepest-append (suc n) ps qs ∙ ap (λ (m : ℕ). max (deepest (suc n) ps) (deepest m qs)) (w .even (suc n))
+      ∙ omega (arith, w .depth (suc n), a .depth n);
+  no-products = product-append ps qs ∙ omega (arith, w .no-products, a .no-products);
+}
+
+-- a `(` and a `)` as parts
+abbrev pub open-part : ℕ → List ℕ → Part Name
+open-part i x = record { label = opened; start = i; text = x }
+
+abbrev pub close-part : ℕ → List ℕ → Part Name
+close-part i x = record { label = closed; start = i; text = x }
+
 -- a comment with what it holds
-module _ (s : List ℕ) (i e : ℕ) (ps : List (Part Name)) (h : ℕ) (a : Enclosed ps h) where
-  closed-behind : (n : ℕ) → levels (suc n) (ps ++ closing s e ∷ []) ≡ n
-  closed-behind n = levels-append (suc n) ps (closing s e ∷ []) ∙ ap (λ (m : ℕ). levels m (closing s e ∷ [])) (a .even n)
+module _ (i e : ℕ) (x y : List ℕ) (ps : List (Part Name)) (h : ℕ) (a : Enclosed ps h) where
+  closed-behind : (n : ℕ) → levels (suc n) (ps ++ close-part e y ∷ []) ≡ n
+  closed-behind n = levels-append (suc n) ps (close-part e y ∷ []) ∙ ap (λ (m : ℕ). levels m (close-part e y ∷ [])) (a .even n)
 
-  none-outermost : (n : ℕ) → outermost (suc n) (ps ++ closing s e ∷ []) ≡ 0
-  none-outermost n = outermost-append (suc n) ps (closing s e ∷ []) ∙ omega (arith, a .inner n)
+  none-outermost : (n : ℕ) → outermost (suc n) (ps ++ close-part e y ∷ []) ≡ 0
+  none-outermost n = outermost-append (suc n) ps (close-part e y ∷ []) ∙ omega (arith, a .inner n)
 
-  deep-behind : (n : ℕ) → deepest (suc n) (ps ++ closing s e ∷ []) ≡ suc n + h
+  deep-behind : (n : ℕ) → deepest (suc n) (ps ++ close-part e y ∷ []) ≡ suc n + h
   deep-behind n =
-      deepest-append (suc n) ps (closing s e ∷ []) ∙ ap (λ (m : ℕ). max (deepest (suc n) ps) (deepest m (closing s e ∷ []))) (a .even n)
+      deepest-append (suc n) ps (close-part e y ∷ []) ∙ ap (λ (m : ℕ). max (deepest (suc n) ps) (deepest m (close-part e y ∷ []))) (a .even n)
       ∙ omega (arith, a .depth n)
 
-  pub comment-whole : Whole (opening s i ∷ (ps ++ closing s e ∷ [])) (h + 1)
+  pub comment-whole : Whole (open-part i x ∷ (ps ++ close-part e y ∷ [])) (suc h)
   comment-whole = record {
     even = λ n. closed-behind n;
     first = omega (arith, none-outermost 0);
     inner = λ n. omega (arith, none-outermost (suc n));
     depth = λ n. omega (arith, deep-behind n);
-    plain = omega (arith, product-append ps (closing s e ∷ []), a .plain);
+    no-products = omega (arith, product-append ps (close-part e y ∷ []), a .no-products);
   }

@@ -22,14 +22,14 @@ use Rattle.grammar.proofs.Repeats.{may-end}
 use Rattle.grammar.proofs.Scans.{Run, same-judge, goes-on, part-plus, part-plus-none, first-is, first-not, first-none, ends-early}
 use Rattle.grammar.proofs.Skips.{skip-run}
 use Rattle.octets.specs.Bytes.{blank?, token?}
-use Rattle.octets.specs.Classes.{TOKEN, BLANK}
-use Rattle.octets.specs.helpers.Runs.{run-end}
+use Rattle.octets.specs.Classes.{TOKEN, BLANK, token}
 use Rattle.octets.proofs.Bytes.{told-apart}
-use Rattle.octets.proofs.Runs.{run-end-stop, run-end-next}
-use Rattle.octets.proofs.Runs.{run-is}
+use Rattle.scans.specs.helpers.Runs.{run-end}
+use Rattle.scans.proofs.Runs.{run-end-stop, run-end-next}
+use Rattle.scans.proofs.Runs.{run-is}
 use Rattle.products.specs.declared.Products.{Products}
 use Rattle.products.specs.Counting.{Name, product, opened, levels, product-count, outermost, deepest}
-use Rattle.products.specs.Grammar.{token, slash-token, a-product, further, more, products, value, rules}
+use Rattle.products.specs.Grammar.{slash-token, a-product, further, more, products, value, rules}
 use Rattle.products.specs.helpers.Scan.{within, Whole, Place, opening, entered, CommentRead, Found, NoComment, ItemRead}
 use Rattle.products.proofs.Counting.{levels-append, product-append, outermost-append, deepest-append}
 use Rattle.products.proofs.Comments.{quiet, opened-one}
@@ -169,7 +169,7 @@ module _ (cs : List (Part Name)) (f : Products) (even : levels 0 cs ≡ 0) (coun
 
     whole-counts : value (cs ++ qs) ≡ with-comment f h
     whole-counts = same-counts
-        (product-append cs qs ∙ omega (arith, had-products, w .plain))
+        (product-append cs qs ∙ omega (arith, had-products, w .no-products))
         (outermost-append 0 cs qs ∙ rw even (omega (arith, had-comments, w .first)))
         (deepest-append 0 cs qs ∙ rw even (omega (arith, had-deepest, w .depth 0)))
 
@@ -249,7 +249,9 @@ module _ (s : List ℕ) where
       name-reads =
           here
           ∙ part-plus rules s cs product TOKEN behind-name refl refl name-token i (run-end token? s i) token-run forward
-          (λ n a b. still (cs ++ record { label = product; start = i; text = slice s i (n + 1) } ∷ []) (named-level cs f (w .found .even) (w .found .counts) (record { label = product; start = i; text = slice s i (n + 1) }) refl) n)
+          (λ n a b.
+          let c : Part Name = record { label = product; start = i; text = slice s i (n + 1) } in
+          still (cs ++ c ∷ []) (named-level cs f (w .found .even) (w .found .counts) c refl) n)
 
       even : levels 0 (cs ++ named ∷ []) ≡ 0
       even = named-level cs f (w .found .even) (w .found .counts) named refl

@@ -2,5 +2,8 @@ pub mod Counting
 pub mod Comments
 pub mod Items
 pub mod Wording
+pub mod Depth
+pub mod Answer
+pub mod Limit
 pub mod Demands
 pub mod Examples

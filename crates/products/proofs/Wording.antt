@@ -8,10 +8,10 @@ use Rattle.grammar.specs.Grammar as Items-of
 use Rattle.grammar.specs.Grammar.{Part, Grammar, byte, _⨾_, star, opt, plus, just, Parses, Many, none, more, Nest, out, opens, closes, past}
 use Rattle.grammar.proofs.Derivative.{past-append}
 use Rattle.grammar.proofs.Regroup.{regroup, star-more}
-use Rattle.octets.specs.Classes.{TOKEN, BLANK}
+use Rattle.octets.specs.Classes.{TOKEN, BLANK, token}
 use Rattle.products.specs.Counting.{Name, opened, closed, levels, product-count, outermost}
 use Rattle.products.specs.Grammar as G
-use Rattle.products.specs.Grammar.{token, slash-token, content, a-product, comment, further, group, products}
+use Rattle.products.specs.Grammar.{slash-token, content, a-product, comment, further, group, products}
 use Rattle.products.specs.Wording.{Kind, product-kind, comment-kind, is-kind, item, between, Items, last, next, how-many}
 use Rattle.products.proofs.Counting.{product-append, outermost-append}
 
@@ -113,12 +113,15 @@ moved i t u v qs k = subst (λ (j : ℕ). Tail k j v qs) (past-append i t u)
 -- a comment, with a product directly behind it if there is one
 opt-items : (i : ℕ) (s : List ℕ) (ps : List (Part Name)) → Parses (comment ⨾ opt a-product) i s ps → (u : List ℕ) (qs : List (Part Name))
     → ((k : Kind) → Tail k (past i s) u qs) → Items comment-kind i (s ++ u) (ps ++ qs)
-opt-items i s ps m u qs f = rw (m .4, m .5, append-assoc (m .0) (m .1) u, append-assoc (m .2) (m .3) qs) (go (m .1) (m .3) (m .7) (λ k. moved i (m .0) (m .1) u qs k (subst (λ (v : List ℕ). Tail k (past i v) u qs) (m .4) (f k))))
+opt-items i s ps m u qs f =
+    rw (m .4, m .5, append-assoc (m .0) (m .1) u, append-assoc (m .2) (m .3) qs)
+    (go (m .1) (m .3) (m .7) (λ k. moved i (m .0) (m .1) u qs k (subst (λ (v : List ℕ). Tail k (past i v) u qs) (m .4) (f k))))
   where
     go : (v : List ℕ) (rs : List (Part Name)) → Parses (opt a-product) (past i (m .0)) v rs → ((k : Kind) → Tail k (past (past i (m .0)) v) u qs)
         → Items comment-kind i (m .0 ++ (v ++ u)) (m .2 ++ (rs ++ qs))
     go v rs (inl e) g =
-        attach comment-kind i (m .0) (v ++ u) (m .2) (rs ++ qs) (m .6) (rw (e .0, e .1) (subst (λ (w : List ℕ). Tail comment-kind (past (past i (m .0)) w) u qs) (e .0) (g comment-kind)))
+        attach comment-kind i (m .0) (v ++ u) (m .2) (rs ++ qs) (m .6)
+        (rw (e .0, e .1) (subst (λ (w : List ℕ). Tail comment-kind (past (past i (m .0)) w) u qs) (e .0) (g comment-kind)))
     go v rs (inr x) g =
         attach comment-kind i (m .0) (v ++ u) (m .2) (rs ++ qs) (m .6)
         (glue-product (past i (m .0)) (v ++ u) (rs ++ qs) (attach product-kind (past i (m .0)) v u rs qs x (g product-kind)))
@@ -157,14 +160,17 @@ blank-parts i s ps (more b t u qs rs x y) = rw (x .3, blank-parts (past (suc i) 
 blanks-between : (k l : Kind) (i : ℕ) (s : List ℕ) (ps : List (Part Name)) → Parses (plus (byte BLANK)) i s ps → Parses (between k l) i s []
 blanks-between k l i s ps m = by k l
   where
-    plain : Parses {L = Name} (plus (byte BLANK)) i s []
-    plain = (m .0, m .1, [], [], m .4, refl, (m .6 .0, m .6 .1, m .6 .2, refl), subst (Many (Parses (byte BLANK)) (past i (m .0)) (m .1)) (blank-parts (past i (m .0)) (m .1) (m .3) (m .7)) (m .7))
+    blanks : Many (Parses {L = Name} (byte BLANK)) (past i (m .0)) (m .1) []
+    blanks = subst (Many (Parses (byte BLANK)) (past i (m .0)) (m .1)) (blank-parts (past i (m .0)) (m .1) (m .3) (m .7)) (m .7)
+
+    some : Parses {L = Name} (plus (byte BLANK)) i s []
+    some = (m .0, m .1, [], [], m .4, refl, (m .6 .0, m .6 .1, m .6 .2, refl), blanks)
 
     any : Parses {L = Name} (star (byte BLANK)) i s []
-    any = star-more i s [] (byte BLANK) (λ x. x) plain
+    any = star-more i s [] (byte BLANK) (λ x. x) some
 
     by : (k l : Kind) → Parses (between k l) i s []
-    by product-kind product-kind = plain
+    by product-kind product-kind = some
     by product-kind comment-kind = any
     by comment-kind l = any
 
@@ -204,7 +210,7 @@ pub record ItemParts (k : Kind) (ps : List (Part Name)) : Type 0 where
   pub are-products : product-count ps ≡ is-kind product-kind k
   pub are-comments : outermost 0 ps ≡ is-kind comment-kind k
 
-content-parts : (i : ℕ) (s : List ℕ) (ps : List (Part Name)) → Parses content i s ps → ps ≡ []
+pub content-parts : (i : ℕ) (s : List ℕ) (ps : List (Part Name)) → Parses content i s ps → ps ≡ []
 content-parts i s ps (inl m) = m .3
 content-parts i s ps (inr m) = rw (m .5, m .6 .3, m .7 .3)
 
@@ -224,14 +230,14 @@ byte-parts : (i : ℕ) (s : List ℕ) (ps : List (Part Name)) → Many (Parses (
 byte-parts i s ps none = refl
 byte-parts i s ps (more b t u qs rs x y) = rw (x .3, byte-parts (past (suc i) t) u rs y)
 
-token-parts : (i : ℕ) (s : List ℕ) (ps : List (Part Name)) → Parses token i s ps → ps ≡ []
+pub token-parts : (i : ℕ) (s : List ℕ) (ps : List (Part Name)) → Parses token i s ps → ps ≡ []
 token-parts i s ps m = rw (m .5, m .6 .3, byte-parts (past i (m .0)) (m .1) (m .3) (m .7))
 
-slash-parts : (i : ℕ) (s : List ℕ) (ps : List (Part Name)) → Parses slash-token i s ps → ps ≡ []
+pub slash-parts : (i : ℕ) (s : List ℕ) (ps : List (Part Name)) → Parses slash-token i s ps → ps ≡ []
 slash-parts i s ps (inl m) = m .1
 slash-parts i s ps (inr m) = rw (m .5, m .6 .3, token-parts (past i (m .0)) (m .1) (m .3) (m .7))
 
-item-parts : (k : Kind) (i : ℕ) (s : List ℕ) (ps : List (Part Name)) → Parses (item k) i s ps → ItemParts k ps
+pub item-parts : (k : Kind) (i : ℕ) (s : List ℕ) (ps : List (Part Name)) → Parses (item k) i s ps → ItemParts k ps
 item-parts product-kind i s ps m =
     let e = token-parts i (m .0) (m .6 .0) (m .6 .2) in
     let f = slash-parts (past i (m .0)) (m .1) (m .3) (m .7) in

@@ -11,6 +11,7 @@ pub data Name : Type 0 where
 abbrev pub level-behind : Name → ℕ → ℕ
 level-behind product n = n
 level-behind opened n = suc n
+-- never: a `)` that closes no level is no part
 level-behind closed zero = zero
 level-behind closed (suc n) = n
 

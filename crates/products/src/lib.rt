@@ -49,7 +49,7 @@ pub fn read(s: &[u8]) -> Reading
 {
     if s.len() > octets::VALUE_LIMIT {
         return Reading::Refused(Refusal {
-            number: 13,
+            number: octets::VALUE_TOO_LONG,
             place: octets::VALUE_LIMIT,
         });
     }
@@ -70,7 +70,7 @@ pub fn read(s: &[u8]) -> Reading
                     return Reading::Read(through);
                 }
                 found = through;
-                at = octets::class_end(octets::BLANK, s, end);
+                at = scans::class_end(octets::BLANK, s, end);
             }
         }
     }
@@ -83,7 +83,7 @@ fn read_item(s: &[u8], at: usize, found: Products) -> Item
 {
     if s.len() <= at {
         return Item::Refused(Refusal {
-            number: 1,
+            number: octets::MALFORMED,
             place: at,
         });
     }
@@ -97,7 +97,7 @@ fn read_item(s: &[u8], at: usize, found: Products) -> Item
             found: Products {
                 products: found.products,
                 comments: found.comments + 1,
-                deepest: larger(found.deepest, levels),
+                deepest: max(found.deepest, levels),
             },
         },
     }
@@ -108,10 +108,10 @@ fn read_product(s: &[u8], at: usize, found: Products) -> Item
     requires { ⌜ NoComment (now s) at found ⌝ }
     ensures { λ r. ⌜ ItemAt (now (s .entry)) at r ⌝ }
 {
-    let name = octets::class_end(octets::TOKEN, s, at);
+    let name = scans::class_end(octets::TOKEN, s, at);
     if name == at {
         return Item::Refused(Refusal {
-            number: 1,
+            number: octets::MALFORMED,
             place: at,
         });
     }
@@ -126,17 +126,17 @@ fn read_product(s: &[u8], at: usize, found: Products) -> Item
     if s[name] != b'/' {
         return Item::Read { end: name, found };
     }
-    let end = octets::class_end(octets::TOKEN, s, name + 1);
+    let end = scans::class_end(octets::TOKEN, s, name + 1);
     if end == name + 1 {
         return Item::Refused(Refusal {
-            number: 1,
+            number: octets::MALFORMED,
             place: end,
         });
     }
     Item::Read { end, found }
 }
 
-fn larger(a: usize, b: usize) -> usize
+fn max(a: usize, b: usize) -> usize
     ensures { λ r. ⌜ r ≡ max a b ⌝ }
 {
     if a < b { b } else { a }
@@ -149,7 +149,7 @@ fn read_comment(s: &[u8], at: usize, allowed: usize) -> Comment
 {
     if allowed == 0 {
         return Comment::Refused(Refusal {
-            number: 12,
+            number: octets::COMMENT_TOO_DEEP,
             place: at,
         });
     }
@@ -177,7 +177,7 @@ fn read_content(s: &[u8], from: usize, allowed: usize) -> Comment
             match read_comment(s, i, allowed) {
                 Comment::Refused(refusal) => return Comment::Refused(refusal),
                 Comment::Closed { end, levels: inner } => {
-                    levels = larger(levels, inner);
+                    levels = max(levels, inner);
                     i = end;
                 }
             }
@@ -191,7 +191,7 @@ fn read_content(s: &[u8], from: usize, allowed: usize) -> Comment
         }
     }
     Comment::Refused(Refusal {
-        number: 1,
+        number: octets::MALFORMED,
         place: i,
     })
 }
@@ -209,13 +209,13 @@ fn read_plain(s: &[u8], at: usize) -> Comment
     }
     if s[at] != b'\\' {
         return Comment::Refused(Refusal {
-            number: 1,
+            number: octets::MALFORMED,
             place: at,
         });
     }
     if s.len() <= at + 1 {
         return Comment::Refused(Refusal {
-            number: 1,
+            number: octets::MALFORMED,
             place: at + 1,
         });
     }
@@ -226,7 +226,7 @@ fn read_plain(s: &[u8], at: usize) -> Comment
         };
     }
     Comment::Refused(Refusal {
-        number: 1,
+        number: octets::MALFORMED,
         place: at + 1,
     })
 }

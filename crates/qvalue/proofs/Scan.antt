@@ -18,11 +18,11 @@ use Rattle.grammar.proofs.Scans.{Run, goes-on, stops-at, ends-early, ends-well,
 use Rattle.grammar.proofs.Repeats.{run-short, run-cut, part-up-to}
 use Rattle.octets.specs.Bytes.{digit?}
 use Rattle.octets.specs.Classes.{DIGIT}
-use Rattle.octets.specs.helpers.Runs.{run-end}
 use Rattle.octets.specs.Numbers.{grow, number-after}
 use Rattle.octets.proofs.Bytes.{digit-low, digit-high}
-use Rattle.octets.proofs.Runs.{run-is}
 use Rattle.octets.proofs.Tables.{bits, digit-bits}
+use Rattle.scans.specs.helpers.Runs.{run-end}
+use Rattle.scans.proofs.Runs.{run-is}
 use Rattle.qvalue.specs.Grammar.{Name, fraction, decimals, qvalue, rules}
 use Rattle.qvalue.specs.helpers.Scan.{whole-part, AfterWhole}
 
@@ -86,7 +86,8 @@ module _ (s : List ℕ) (short : length s ≤ 8192) where
       only-digits = zero-digit;
       small = omega arith;
       some = at;
-      reads = header-short rules s short ∙ goes-on rules s [] qvalue 0 (ahead (whole-part 1 ∷ []) (decimals (just 48 tt))) at (rw h) refl refl;
+      reads = header-short rules s short
+          ∙ goes-on rules s [] qvalue 0 (ahead (whole-part 1 ∷ []) (decimals (just 48 tt))) at (rw h) refl refl;
     }
 
 -- ## Behind it
@@ -122,12 +123,15 @@ module _ (s : List ℕ) (w : ℕ) (words : List ℕ) (a : AfterWhole s w words) 
 
         pub too-many : 5 < e → header rules s ≡ refused 1 5
         too-many k =
-            pointed ∙ part-up-to rules s cs fraction c empty refl refl (λ j b f. refl) 2 5 3 (run-cut (c .has) s 3 2 e 5 run refl (omega arith)) (λ m x y. refl)
+            pointed ∙ part-up-to rules s cs fraction c empty refl refl (λ j b f. refl) 2 5 3
+            (run-cut (c .has) s 3 2 e 5 run refl (omega arith)) (λ m x y. refl)
             ∙ goes-too-far rules s (cs ++ fraction-part 5 ∷ []) 5 (omega (arith, run .within))
 
         module _ (few : e ≤ 5) where
           read-on : header rules s ≡ from rules s (ahead (cs ++ fraction-part e ∷ []) empty) e
-          read-on = pointed ∙ part-up-to rules s cs fraction c empty refl refl (λ j b f. refl) 2 e 3 (run-short (c .has) s 3 2 e run few) (λ m x y. refl)
+          read-on =
+              pointed ∙ part-up-to rules s cs fraction c empty refl refl (λ j b f. refl) 2 e 3 (run-short (c .has) s 3 2 e run few)
+              (λ m x y. refl)
 
           pub decimals-go-on : e < length s → header rules s ≡ refused 1 e
           decimals-go-on k = read-on ∙ goes-too-far rules s (cs ++ fraction-part e ∷ []) e k

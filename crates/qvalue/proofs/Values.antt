@@ -1,4 +1,5 @@
--- What the parts of a text tell of its value: no text of the same value is shorter than the one that the writer gives, and the value is at most 1000.
+-- What the parts of a text tell of its value: no text of the same value is shorter than the one that the writer gives, and the value is at
+-- most 1000.
 use Prim.Native.Nat.{ℕ, zero, suc, _+_, _-_, _*_, _≤_}
 use native.Mathlib.Omega.{arith}
 use mathlib.Core.Path.{_≡_, _∙_}
@@ -8,7 +9,7 @@ use lib.Dec.{T, leb, ltb, eqb, leb→le, eqb→eq}
 use lib.ListN.{length, getD, take}
 use Rattle.grammar.specs.Grammar.{Class, Part, Parses, past, byte, _⨾_, up-to, part, just, T-right}
 use Rattle.octets.specs.Bytes.{digit?}
-use Rattle.octets.specs.Classes.{DIGIT, digit-some}
+use Rattle.octets.specs.Classes.{DIGIT}
 use Rattle.octets.specs.Numbers.{number}
 use Rattle.qvalue.specs.Grammar.{Name, whole, decimals, qvalue, thousandths, largest}
 use Rattle.qvalue.specs.Writing.{qvalue-text}
@@ -34,12 +35,14 @@ no-parts zero c i s ps (es, ep) = ep
 no-parts (suc n) c i s ps (inl (es, ep)) = ep
 no-parts (suc n) c i s ps (inr (t, u, qs, rs, es, ep, (b, et, h, e), p)) = ep ∙ rw (e, no-parts n c (past i t) u rs p)
 
-form-shortest : (w : ℕ) (k : T (ltb w 256)) (c : Class) (s : List ℕ) (ps : List (Part Name)) → Parses (part whole (byte (just w k)) ⨾ decimals c) 0 s ps
+form-shortest : (w : ℕ) (k : T (ltb w 256)) (c : Class) (s : List ℕ) (ps : List (Part Name))
+    → Parses (part whole (byte (just w k)) ⨾ decimals c) 0 s ps
     → length (qvalue-text (thousandths ps)) ≤ length s
 form-shortest w k c s ps (t, u, qs, rs, es, ep, (qs′, eq, (b, et, h, e)), inl (eu, er)) =
     rw (ep, eq, e, er, es, et, eu) (omega (arith, one b))
 form-shortest w k c s ps (t, u, qs, rs, es, ep, (qs′, eq, (b, et, h, e)), inr (t₂, u₂, qs₂, rs₂, eu, er, (b₂, et₂, h₂, e₂), (qs₃, e₃, p))) =
-    rw (ep, eq, e, er, e₂, e₃, no-parts 3 c (past (past 0 t) t₂) u₂ qs₃ p, es, et, eu, et₂, append-nil u₂) (omega (arith, behind-point b u₂))
+    rw (ep, eq, e, er, e₂, e₃, no-parts 3 c (past (past 0 t) t₂) u₂ qs₃ p, es, et, eu, et₂, append-nil u₂)
+    (omega (arith, behind-point b u₂))
 
 pub shortest-text : (s : List ℕ) (ps : List (Part Name)) → Parses qvalue 0 s ps → length (qvalue-text (thousandths ps)) ≤ length s
 shortest-text s ps (inl p) = form-shortest 48 tt DIGIT s ps p
@@ -76,5 +79,5 @@ zero-top : (b : ℕ) → T (eqb b 48) → b ≤ 48
 zero-top b h = omega (arith, eqb→eq b 48 h)
 
 pub at-most-one : (s : List ℕ) (ps : List (Part Name)) → Parses qvalue 0 s ps → thousandths ps ≤ largest
-at-most-one s ps (inl p) = omega (arith, form-small DIGIT digit-some 57 digit-top 48 tt s ps p)
+at-most-one s ps (inl p) = omega (arith, form-small DIGIT (DIGIT .holds) 57 digit-top 48 tt s ps p)
 at-most-one s ps (inr p) = form-small (just 48 tt) tt 48 zero-top 49 tt s ps p

@@ -1,5 +1,6 @@
 -- "The writer gives the shortest form: 500 is `0.5`, 0 is `0`, 1000 is `1`; above 1000 is refusal 9."
 use Prim.Native.Nat.{ℕ, _+_, _/_, _%_}
+use Prim.Native.Char.{code}
 use mathlib.Core.Bool.{cond}
 use mathlib.Core.List.{List, [], _∷_}
 use lib.Dec.{eqb, ltb}
@@ -8,9 +9,13 @@ use Rattle.grammar.specs.Reading.{Verdict}
 use Rattle.octets.specs.Writing.{writing, output}
 use Rattle.qvalue.specs.Grammar.{largest}
 
--- the form with three digits
+-- the last digit of a number, as a byte
+abbrev pub last-digit : ℕ → ℕ
+last-digit n = code "0" + n % 10
+
+-- the form with three digits behind the point
 abbrev pub full-text : ℕ → List ℕ
-full-text q = (48 + q / 1000 % 10) ∷ 46 ∷ (48 + q / 100 % 10) ∷ (48 + q / 10 % 10) ∷ (48 + q % 10) ∷ []
+full-text q = last-digit (q / 1000) ∷ code "." ∷ last-digit (q / 100) ∷ last-digit (q / 10) ∷ last-digit q ∷ []
 
 -- without the zeros at its end, and without a point there
 unfoldable pub text-length : ℕ → ℕ

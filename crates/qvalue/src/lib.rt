@@ -2,17 +2,22 @@
 ghost use mathlib.Core.Path.{_≡_};
 ghost use mathlib.Core.Bool.{true};
 ghost use mathlib.Core.List.{_++_};
-ghost use Prim.Native.Nat.{_+_, _-_, _%_, _≤_};
-ghost use lib.ListN.{length, drop, getD};
+ghost use Prim.Native.Nat.{_≤_};
+ghost use lib.ListN.{length, drop};
 ghost use Rattle.grammar.specs.helpers.Judge.{header};
 ghost use Rattle.octets.specs.Bytes.{digit?};
 ghost use Rattle.octets.specs.Writing.{written};
 ghost use Rattle.qvalue.specs.Grammar.{rules};
 ghost use Rattle.qvalue.specs.Reading.{verdict};
-ghost use Rattle.qvalue.specs.helpers.Scan.{AfterWhole};
-ghost use Rattle.qvalue.specs.Writing.{qvalue-text, qvalue-writing, qvalue-output};
+ghost use Rattle.qvalue.specs.helpers.Scan.{AfterWhole, byte-or-zero, digit-value};
+ghost use Rattle.qvalue.specs.Writing.{last-digit, qvalue-text, qvalue-writing, qvalue-output};
 use octets::Class;
+use octets::MALFORMED;
+use octets::OUT_OF_RANGE;
+use octets::OUTPUT_TOO_SHORT;
 use octets::Refusal;
+use octets::VALUE_LIMIT;
+use octets::VALUE_TOO_LONG;
 use octets::Written;
 
 // The longest qvalue.
@@ -33,20 +38,29 @@ pub enum Reading {
 pub fn read(s: &[u8]) -> Reading
     ensures { λ r. ⌜ verdict r ≡ header rules (now (s .entry)) ⌝ }
 {
-    if s.len() > octets::VALUE_LIMIT {
-        return refused(13, octets::VALUE_LIMIT);
+    if s.len() > VALUE_LIMIT {
+        return Reading::Refused(Refusal {
+            number: VALUE_TOO_LONG,
+            place: VALUE_LIMIT,
+        });
     }
     if s.len() == 0 {
-        return refused(1, 0);
+        return Reading::Refused(Refusal {
+            number: MALFORMED,
+            place: 0,
+        });
     }
-    let b = s[0];
-    if b == b'0' {
+    let first = s[0];
+    if first == b'0' {
         return read_fraction(s, 0, octets::DIGIT);
     }
-    if b == b'1' {
+    if first == b'1' {
         return read_fraction(s, 1, ZERO);
     }
-    refused(1, 0)
+    Reading::Refused(Refusal {
+        number: MALFORMED,
+        place: 0,
+    })
 }
 
 // Writes the shortest form at the front of `out`, and keeps the rest of `out`.
@@ -55,26 +69,14 @@ pub fn write(thousandths: u16, out: &mut [u8]) -> Written
     ensures writes { λ _. ⌜ now (out .exit) ≡ qvalue-output thousandths (now (out .entry)) ⌝ }
 {
     if thousandths > ONE {
-        return unwritten(9);
+        return octets::unwritten(OUT_OF_RANGE);
     }
     let len = text_len(thousandths);
     if out.len() < len {
-        return unwritten(8);
+        return octets::unwritten(OUTPUT_TOO_SHORT);
     }
     put_text(thousandths, len, out);
     Written::Length(len)
-}
-
-fn refused(number: u8, place: usize) -> Reading
-    ensures { λ r. ⌜ r ≡ Reading.Refused (record { number = number; place = place }) ⌝ }
-{
-    Reading::Refused(Refusal { number, place })
-}
-
-fn unwritten(number: u8) -> Written
-    ensures { λ r. ⌜ r ≡ Written.Refused (record { number = number; place = 0 }) ⌝ }
-{
-    Written::Refused(Refusal { number, place: 0 })
 }
 
 // Reads on behind the first digit, whose value is `whole`; the digits behind the point are of that class.
@@ -86,24 +88,33 @@ fn read_fraction(s: &[u8], whole: u16, class: Class) -> Reading
         return Reading::Read(whole * 1000);
     }
     if s[1] != b'.' {
-        return refused(1, 1);
+        return Reading::Refused(Refusal {
+            number: MALFORMED,
+            place: 1,
+        });
     }
-    let end = octets::class_end(class, s, 2);
+    let end = scans::class_end(class, s, 2);
     if end > LONGEST {
-        return refused(1, LONGEST);
+        return Reading::Refused(Refusal {
+            number: MALFORMED,
+            place: LONGEST,
+        });
     }
     if end < s.len() {
-        return refused(1, end);
+        return Reading::Refused(Refusal {
+            number: MALFORMED,
+            place: end,
+        });
     }
     Reading::Read(whole * 1000 + digit_at(s, 2) * 100 + digit_at(s, 3) * 10 + digit_at(s, 4))
 }
 
 // The value of the digit at that place; none there is as good as a zero.
 fn digit_at(s: &[u8], i: usize) -> u16
-    requires { ⌜ digit? (getD (now s) i 48) ≡ true ⌝ }
-    ensures { λ r. ⌜ (r ≡ getD (now (s .entry)) i 48 - 48) × (r ≤ 9) ⌝ }
+    requires { ⌜ digit? (byte-or-zero (now s) i) ≡ true ⌝ }
+    ensures { λ r. ⌜ (r ≡ digit-value (now (s .entry)) i) × (r ≤ 9) ⌝ }
 {
-    if i < s.len() { (s[i] - 48) as u16 } else { 0 }
+    if i < s.len() { (s[i] - b'0') as u16 } else { 0 }
 }
 
 fn text_len(q: u16) -> usize
@@ -136,7 +147,7 @@ fn put_text(q: u16, len: usize, out: &mut [u8])
 }
 
 fn last_digit(n: u16) -> u8
-    ensures { λ r. ⌜ r ≡ 48 + n % 10 ⌝ }
+    ensures { λ r. ⌜ r ≡ last-digit n ⌝ }
 {
-    48 + (n % 10) as u8
+    b'0' + (n % 10) as u8
 }

@@ -1,4 +1,9 @@
+pub mod Runs
+pub mod Case
+pub mod Numbers
+pub mod QuotedSteps
 pub mod Words
 pub mod Scans
 pub mod Quoted
 pub mod Lines
+pub mod Limits

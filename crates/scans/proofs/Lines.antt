@@ -3,66 +3,56 @@ use Prim.Native.Nat.{ℕ, zero, suc, _+_, _-_, _≤_, _<_}
 use native.Mathlib.Omega.{arith}
 use native.Mathlib.Numerals.{add-one}
 use borrow.Author.Tests.{ltb-true, ltb-false}
-use mathlib.Core.Path.{_≡_, refl, sym, ap, subst, _∙_}
+use mathlib.Core.Path.{_≡_, refl, sym, ap, _∙_}
 use mathlib.Core.Logic.{_⊎_, inl, inr}
-use mathlib.Core.Bool.{Bool, true, false, cond, _&&_, not, true≢false}
+use mathlib.Core.Bool.{Bool, true, false, cond, _&&_, not}
 use mathlib.Core.List.{List, [], _∷_, _++_, append-nil, append-assoc}
 use mathlib.Core.Option.{none}
 use lib.Dec.{T, ltb, eqb}
 use lib.ListN.{length, getD, drop, drop-of-length-le}
 use lib.Seq.{drop-cons}
-use Rattle.grammar.specs.Grammar.{Class, Part, Grammar, void, empty, byte, _⨾_, _∣_, star, part, rest, nest, just, grown, T-left, T-right}
-use Rattle.grammar.specs.helpers.Derivative.{live, nullable, deriv, ends, then, seq, alt, during}
+use Rattle.grammar.specs.Grammar.{Part, Grammar, void, empty, byte, _⨾_, part, rest, just, grown, T-left, T-right}
+use Rattle.grammar.specs.helpers.Derivative.{live, nullable, deriv, ends, then, seq, during}
 use Rattle.grammar.specs.Reading.{Rules, refused}
 use Rattle.grammar.specs.helpers.Judge.{held}
 use Rattle.grammar.specs.helpers.Checks.{ahead}
 use Rattle.grammar.specs.helpers.Scans.{slice, from}
 use Rattle.grammar.proofs.Shapes.{alt-void, seq-void, byte-step}
-use Rattle.grammar.proofs.Scans.{Follows, nothing, blank, solid, follows, dead-live, slice-none, slice-snoc, same-judge, part-begins, part-ends, part-goes-on, part-fails, part-cut-off, first-is, first-not, first-none}
+use Rattle.grammar.proofs.Scans.{Follows, nothing, blank, solid, follows, dead-live, slice-none, slice-snoc, same-judge, during-alone}
+use Rattle.grammar.proofs.Scans.{part-begins, part-ends, part-goes-on, part-fails, part-cut-off, first-is, first-not, first-none}
 use Rattle.octets.specs.Bytes.{digit?}
 use Rattle.octets.specs.Classes.{DIGIT}
 use Rattle.octets.specs.helpers.Shapes.{fitting}
 
 module _ {L : Type 0} where
-  during-alone : (p : Part L) (g : Grammar L) → seq (during p g) empty ≡ during p g
-  during-alone p void = refl
-  during-alone p empty = refl
-  during-alone p (byte c) = refl
-  during-alone p (f ⨾ g) = refl
-  during-alone p (f ∣ g) = refl
-  during-alone p (star g) = refl
-  during-alone p (part k g) = refl
-  during-alone p (rest c g) = refl
-  during-alone p (nest o c k m g r n) = refl
-
   -- so many digits
-  abbrev pub digits : ℕ → Grammar L
-  digits zero = empty
-  digits (suc zero) = byte DIGIT
-  digits (suc (suc n)) = byte DIGIT ⨾ digits (suc n)
+  abbrev pub n-digits : ℕ → Grammar L
+  n-digits zero = empty
+  n-digits (suc zero) = byte DIGIT
+  n-digits (suc (suc n)) = byte DIGIT ⨾ n-digits (suc n)
 
 module _ (L : Type 0) where
-  digits-live : (n : ℕ) → live (digits {L = L} n) ≡ true
+  digits-live : (n : ℕ) → live (n-digits {L = L} n) ≡ true
   digits-live zero = refl
   digits-live (suc zero) = refl
   digits-live (suc (suc n)) = digits-live (suc n)
 
-  digits-held : (n : ℕ) → held (digits {L = L} n) ≡ []
+  digits-held : (n : ℕ) → held (n-digits {L = L} n) ≡ []
   digits-held zero = refl
   digits-held (suc zero) = refl
   digits-held (suc (suc n)) = digits-held (suc n)
 
-  digits-null : (n : ℕ) → nullable (digits {L = L} (suc n)) ≡ false
+  digits-null : (n : ℕ) → nullable (n-digits {L = L} (suc n)) ≡ false
   digits-null zero = refl
   digits-null (suc n) = refl
 
-  digits-ends : (n i : ℕ) → ends (digits {L = L} (suc n)) i ≡ void
+  digits-ends : (n i : ℕ) → ends (n-digits {L = L} (suc n)) i ≡ void
   digits-ends zero i = refl
   digits-ends (suc n) i = refl
 
-  digits-deriv : (n i b : ℕ) → deriv (digits {L = L} (suc n)) i b ≡ cond (digit? b) (digits n) void
+  digits-deriv : (n i b : ℕ) → deriv (n-digits {L = L} (suc n)) i b ≡ cond (digit? b) (n-digits n) void
   digits-deriv zero i b = refl
-  digits-deriv (suc n) i b = byte-step DIGIT i b (digits (suc n))
+  digits-deriv (suc n) i b = byte-step DIGIT i b (n-digits (suc n))
 
 -- a byte as it is, or a number of n + 1 digits
 pub data Item (L : Type 0) : Type 0 where
@@ -77,7 +67,7 @@ module _ {L : Type 0} where
   abbrev pub line : List (Item L) → Grammar L → Grammar L
   line [] g = g
   line (is b p ∷ xs) g = byte (just b p) ⨾ line xs g
-  line (num l n ∷ xs) g = part l (digits (suc n)) ⨾ line xs g
+  line (num l n ∷ xs) g = part l (n-digits (suc n)) ⨾ line xs g
 
   abbrev pub shape : List (Item L) → List ℕ
   shape [] = []
@@ -116,12 +106,16 @@ module _ {L A : Type 0} (r : Rules L A) (s : List ℕ) (quiet : (n : ℕ) (ps : 
   here i at = drop-cons s i 0 at ∙ ap (λ (n : ℕ). getD s i 0 ∷ drop n s) (sym (add-one i))
 
   -- a part and then g, with or without what says nothing
-  part-then : (cs : List (Part L)) (k : L) (x g : Grammar L) → live g ≡ true → (i : ℕ) → from r s (ahead cs (part k x ⨾ g)) i ≡ from r s (ahead cs (then (part k x) g)) i
+  part-then : (cs : List (Part L)) (k : L) (x g : Grammar L) → live g ≡ true → (i : ℕ)
+      → from r s (ahead cs (part k x ⨾ g)) i ≡ from r s (ahead cs (then (part k x) g)) i
   part-then cs k x g l i = go (follows g)
     where
       go : Follows g → from r s (ahead cs (part k x ⨾ g)) i ≡ from r s (ahead cs (then (part k x) g)) i
       go (nothing e) = dead-live g e l
-      go (blank e) = rw e (same-judge r s cs (part k x ⨾ empty) (part k x) i (λ at. byte-same (getD s i 0)) (and-one (nullable x)) (during-alone (record { label = k; start = i; text = [] }) (ends x i)))
+      go (blank e) =
+          rw e
+          (same-judge r s cs (part k x ⨾ empty) (part k x) i (λ at. byte-same (getD s i 0)) (and-one (nullable x))
+          (during-alone (record { label = k; start = i; text = [] }) (ends x i)))
         where
           and-one : (a : Bool) → (a && true) ≡ a
           and-one true = refl
@@ -140,8 +134,8 @@ module _ {L A : Type 0} (r : Rules L A) (s : List ℕ) (quiet : (n : ℕ) (ps : 
     abbrev Digits : ℕ → ℕ → Type 0
     Digits m i =
         ((fitting (zeros m w) (drop i s) ≡ m + fitting w (drop (i + m) s))
-        × (from r s (ahead cs (then (rest (upto i) (digits m)) g)) i ≡ from r s (ahead (cs ++ upto (i + m) ∷ []) g) (i + m)))
-        ⊎ ((n : ℕ) × (n < m) × (fitting (zeros m w) (drop i s) ≡ n) × (from r s (ahead cs (then (rest (upto i) (digits m)) g)) i ≡ refused 1 (i + n)))
+        × (from r s (ahead cs (then (rest (upto i) (n-digits m)) g)) i ≡ from r s (ahead (cs ++ upto (i + m) ∷ []) g) (i + m)))
+        ⊎ ((n : ℕ) × (n < m) × (fitting (zeros m w) (drop i s) ≡ n) × (from r s (ahead cs (then (rest (upto i) (n-digits m)) g)) i ≡ refused 1 (i + n)))
 
     still : (i : ℕ) → i ≡ i + 0
     still i = omega arith
@@ -164,7 +158,7 @@ module _ {L A : Type 0} (r : Rules L A) (s : List ℕ) (quiet : (n : ℕ) (ps : 
               0,
               omega arith,
               ap (fitting (zeros (suc m) w)) (drop-of-length-le s end),
-              part-cut-off r s cs g l (upto i) (digits (suc m)) i end (digits-null L m) ∙ ap (refused 1) (still i),
+              part-cut-off r s cs g l (upto i) (n-digits (suc m)) i end (digits-null L m) ∙ ap (refused 1) (still i),
             )
         go true e later = digit (digit? (getD s i 0)) refl later
           where
@@ -180,15 +174,15 @@ module _ {L A : Type 0} (r : Rules L A) (s : List ℕ) (quiet : (n : ℕ) (ps : 
                   0,
                   omega arith,
                   ap (fitting (zeros (suc m) w)) (here i at) ∙ rw f,
-                  part-fails r s cs g l (upto i) (digits (suc m)) i at (digits-deriv L m i (getD s i 0) ∙ rw f) (digits-ends L m i) ∙ ap (refused 1) (still i),
+                  part-fails r s cs g l (upto i) (n-digits (suc m)) i at (digits-deriv L m i (getD s i 0) ∙ rw f) (digits-ends L m i) ∙ ap (refused 1) (still i),
                 )
             digit true f later = next later
               where
-                on : from r s (ahead cs (then (rest (upto i) (digits (suc m))) g)) i ≡ from r s (ahead cs (then (rest (upto (i + 1)) (digits m)) g)) (i + 1)
+                on : from r s (ahead cs (then (rest (upto i) (n-digits (suc m))) g)) i ≡ from r s (ahead cs (then (rest (upto (i + 1)) (n-digits m)) g)) (i + 1)
                 on =
-                    part-goes-on r s cs g l (upto i) (digits (suc m)) i h (digits m) at (digits-deriv L m i (getD s i 0) ∙ rw f) (digits-live L m) (digits-held L m)
+                    part-goes-on r s cs g l (upto i) (n-digits (suc m)) i h (n-digits m) at (digits-deriv L m i (getD s i 0) ∙ rw f) (digits-live L m) (digits-held L m)
                     (ap (λ (y : Grammar L). seq (during (upto i) y) (deriv g i (getD s i 0))) (digits-ends L m i)) (quiet i (cs ++ grown (upto i) (getD s i 0 ∷ []) ∷ []))
-                    ∙ ap (λ (p : Part L). from r s (ahead cs (then (rest p (digits m)) g)) (i + 1)) grows
+                    ∙ ap (λ (p : Part L). from r s (ahead cs (then (rest p (n-digits m)) g)) (i + 1)) grows
 
                 counts : fitting (zeros (suc m) w) (drop i s) ≡ suc (fitting (zeros m w) (drop (i + 1) s))
                 counts = ap (fitting (zeros (suc m) w)) (here i at) ∙ rw f
@@ -226,9 +220,11 @@ module _ {L A : Type 0} (r : Rules L A) (s : List ℕ) (quiet : (n : ℕ) (ps : 
       suc-plus : (a b : ℕ) → suc (a + b) ≡ suc a + b
       suc-plus a b = omega arith
 
-  pub line-reads : (xs : List (Item L)) (g : Grammar L) → T (sound xs) → live g ≡ true → held g ≡ [] → (cs : List (Part L)) (i : ℕ) → Lined cs xs g i
+  pub line-reads : (xs : List (Item L)) (g : Grammar L) → T (sound xs) → live g ≡ true → held g ≡ [] → (cs : List (Part L)) (i : ℕ)
+      → Lined cs xs g i
   line-reads [] g v l h cs i = (λ e. ap (λ (ps : List (Part L)). from r s (ahead ps g) i) (sym (append-nil cs)), λ e. absurd (omega arith))
-  line-reads (is b p ∷ xs) g v l h cs i = go (ltb i (length s)) refl (line-reads xs g (T-right (not (eqb b 48)) (sound xs) v) l h cs (i + 1))
+  line-reads (is b p ∷ xs) g v l h cs i =
+      go (ltb i (length s)) refl (line-reads xs g (T-right (not (eqb b 48)) (sound xs) v) l h cs (i + 1))
     where
       still′ : i ≡ i + 0
       still′ = omega arith
@@ -263,12 +259,12 @@ module _ {L A : Type 0} (r : Rules L A) (s : List ℕ) (quiet : (n : ℕ) (ps : 
       go (digits-read cs k (line xs g) (line-live xs g l) (line-held xs g h) (shape xs) i (suc n) i (omega arith))
       (line-reads xs g v l h (cs ++ record { label = k; start = i; text = slice s i (i + suc n) } ∷ []) (i + suc n))
     where
-      begun : from r s (ahead cs (part k (digits (suc n)) ⨾ line xs g)) i
-          ≡ from r s (ahead cs (then (rest (record { label = k; start = i; text = slice s i i }) (digits (suc n))) (line xs g))) i
+      begun : from r s (ahead cs (part k (n-digits (suc n)) ⨾ line xs g)) i
+          ≡ from r s (ahead cs (then (rest (record { label = k; start = i; text = slice s i i }) (n-digits (suc n))) (line xs g))) i
       begun =
-          part-then cs k (digits (suc n)) (line xs g) (line-live xs g l) i
-          ∙ part-begins r s cs (line xs g) (line-live xs g l) k (digits (suc n)) i
-          ∙ ap (λ (t : List ℕ). from r s (ahead cs (then (rest (record { label = k; start = i; text = t }) (digits (suc n))) (line xs g))) i) (sym (slice-none s i))
+          part-then cs k (n-digits (suc n)) (line xs g) (line-live xs g l) i
+          ∙ part-begins r s cs (line xs g) (line-live xs g l) k (n-digits (suc n)) i
+          ∙ ap (λ (t : List ℕ). from r s (ahead cs (then (rest (record { label = k; start = i; text = t }) (n-digits (suc n))) (line xs g))) i) (sym (slice-none s i))
 
       len : length (shape (num k n ∷ xs)) ≡ suc n + length (shape xs)
       len = zeros-length (suc n) (shape xs)
@@ -282,4 +278,5 @@ module _ {L A : Type 0} (r : Rules L A) (s : List ℕ) (quiet : (n : ℕ) (ps : 
                 (append-assoc cs (record { label = k; start = i; text = slice s i (i + suc n) } ∷ []) (parts s xs (i + suc n))),
             λ q. begun ∙ p .1 ∙ later .1 (omega (arith, p .0, len)) ∙ ap (refused 1) y,
           )
-      go (inr p) later = (λ q. absurd (omega (arith, p .1, p .2, len)), λ q. begun ∙ p .3 ∙ ap (refused 1) (ap (λ (m : ℕ). i + m) (sym (p .2))))
+      go (inr p) later =
+          (λ q. absurd (omega (arith, p .1, p .2, len)), λ q. begun ∙ p .3 ∙ ap (refused 1) (ap (λ (m : ℕ). i + m) (sym (p .2))))

@@ -1,29 +1,29 @@
 -- Quoted strings: the place where the text and pairs stop, against the grammar.
 use Prim.Native.Nat.{ℕ, zero, suc, _+_, _≤_, _<_}
 use native.Mathlib.Omega.{arith}
-use native.Mathlib.Numerals.{add-one}
 use mathlib.Core.Path.{_≡_, refl, sym, ap, subst, _∙_}
-use mathlib.Core.Bool.{Bool, true, false, cond, true≢false}
+use mathlib.Core.Bool.{Bool, true, false, true≢false}
 use mathlib.Core.List.{List, [], _∷_, _++_, append-nil}
 use mathlib.Core.Option.{none}
 use lib.Dec.{ltb, eqb}
-use lib.ListN.{length, getD, drop, length-drop, drop-of-length-le}
-use lib.Seq.{drop-cons, drop-drop}
+use lib.ListN.{length, getD, drop}
 use borrow.Author.Tests.{ltb-true, ltb-false, eqb-true, eq-eqb, ne-eqb}
-use Rattle.grammar.specs.Grammar.{Class, Part, Grammar, void, empty, byte, _⨾_, _∣_, star, part, rest, nest, grown}
+use Rattle.grammar.specs.Grammar.{Part, Grammar, void, byte, _⨾_, part, rest, grown}
 use Rattle.grammar.specs.helpers.Derivative.{live, deriv, ends, then, seq, during}
 use Rattle.grammar.specs.Reading.{Rules, refused}
 use Rattle.grammar.specs.helpers.Judge.{held}
 use Rattle.grammar.specs.helpers.Checks.{ahead}
 use Rattle.grammar.specs.helpers.Scans.{slice, from}
 use Rattle.grammar.proofs.Shapes.{byte-step}
-use Rattle.grammar.proofs.Scans.{then-byte, slice-none, slice-snoc, then-live, then-held, part-begins, part-goes-on, part-ends, part-fails, part-cut-off, byte-is, byte-not, byte-none}
+use Rattle.grammar.proofs.Scans.{then-byte, slice-none, slice-snoc, then-live, then-held, part-begins, part-goes-on, part-ends}
+use Rattle.grammar.proofs.Scans.{part-fails, part-cut-off, byte-is, byte-not, byte-none}
 use Rattle.octets.specs.Bytes.{text?, escaped?}
 use Rattle.octets.specs.Classes.{ESCAPED}
-use Rattle.octets.specs.helpers.Runs.{run, run-end}
-use Rattle.octets.specs.Quoted.{QUOTE, quoted-text, quoted-length, quoted-end}
+use Rattle.octets.specs.Quoted.{QUOTE, quoted-text}
 use Rattle.octets.proofs.Bytes.{told-apart}
-use Rattle.octets.proofs.Quoted.{quote-no-text, backslash-no-text, quote-escaped, at-end, text-next, pair-next, neither-next, escaped-next, not-escaped}
+use Rattle.scans.specs.helpers.Quoted.{quoted-length, quoted-end}
+use Rattle.scans.proofs.QuotedSteps.{quote-no-text, backslash-no-text, quote-escaped, at-end, text-next, pair-next, neither-next}
+use Rattle.scans.proofs.QuotedSteps.{escaped-next, not-escaped}
 
 -- what is left of the text between quotes
 abbrev left : {L : Type 0} → (pair : Bool) → Grammar L
@@ -79,7 +79,8 @@ module _ {L A : Type 0} (r : Rules L A) (s : List ℕ) (cs : List (Part L)) (k :
   unclosed true j b f = refl
   unclosed false j b f = rw (then-byte QUOTE g l j b, f refl)
 
-  takes : (pair next : Bool) (j : ℕ) → i ≤ j → j < length s → deriv {L = L} (left pair) j (getD s j 0) ≡ left next → (pair ≡ false → eqb (getD s j 0) 34 ≡ false)
+  takes : (pair next : Bool) (j : ℕ) → i ≤ j → j < length s → deriv {L = L} (left pair) j (getD s j 0) ≡ left next
+      → (pair ≡ false → eqb (getD s j 0) 34 ≡ false)
       → from r s (in-quotes pair j) j ≡ from r s (in-quotes next (j + 1)) (j + 1)
   takes pair next j a at d f =
       let grows : grown (quoted-part j) (getD s j 0 ∷ []) ≡ quoted-part (j + 1) =
@@ -94,7 +95,8 @@ module _ {L A : Type 0} (r : Rules L A) (s : List ℕ) (cs : List (Part L)) (k :
       (e < length s → getD s e 0 ≡ 34 → from r s (in-quotes pair j) j ≡ from r s (ahead (cs ++ quoted-part e ∷ []) g) (e + 1))
       × ((e < length s → getD s e 0 ≡ 34 → ⊥) → from r s (in-quotes pair j) j ≡ refused 1 e)
 
-  moves : (pair next : Bool) (j m n : ℕ) → m ≡ suc n → from r s (in-quotes pair j) j ≡ from r s (in-quotes next (j + 1)) (j + 1) → Stops next (j + 1) ((j + 1) + n)
+  moves : (pair next : Bool) (j m n : ℕ) → m ≡ suc n → from r s (in-quotes pair j) j ≡ from r s (in-quotes next (j + 1)) (j + 1)
+      → Stops next (j + 1) ((j + 1) + n)
       → Stops pair j (j + m)
   moves pair next j m n e f w =
       let z : (j + 1) + n ≡ j + m = omega arith in
@@ -117,7 +119,8 @@ module _ {L A : Type 0} (r : Rules L A) (s : List ℕ) (cs : List (Part L)) (k :
       quiet : r .limit j (past ++ held g) ≡ none
       quiet = ap (λ (ps : List (Part L)). r .limit j (past ++ ps)) h ∙ ap (r .limit j) (append-nil past) ∙ calm j (slice s i j) a
 
-      go : (j < length s → getD s j 0 ≡ 34 → ⊥) → (x : Bool) → ltb j (length s) ≡ x → from r s (ahead past (then (byte QUOTE) g)) j ≡ refused 1 j
+      go : (j < length s → getD s j 0 ≡ 34 → ⊥) → (x : Bool) → ltb j (length s) ≡ x
+          → from r s (ahead past (then (byte QUOTE) g)) j ≡ refused 1 j
       go n true e = let at = ltb-true j (length s) e in byte-not r s past QUOTE g l j at (ne-eqb (getD s j 0) 34 (n at))
       go n false e = byte-none r s past QUOTE g l j (ltb-false j (length s) e)
 
@@ -151,7 +154,8 @@ module _ {L A : Type 0} (r : Rules L A) (s : List ℕ) (cs : List (Part L)) (k :
           pair-case true f =
               moves false true j (quoted-length false (drop j s)) (quoted-length true (drop (j + 1) s)) (pair-next s j at e f)
               (takes false true j b at (left-pair L j (getD s j 0) e f) (λ z. ap (λ (x : ℕ). eqb x 34) (eqb-true (getD s j 0) 92 f))) (w true)
-          pair-case false f = stays false j (quoted-length false (drop j s)) (neither-next s j at e f) (ended j b (λ z. left-neither L j (getD s j 0) e f))
+          pair-case false f =
+              stays false j (quoted-length false (drop j s)) (neither-next s j at e f) (ended j b (λ z. left-neither L j (getD s j 0) e f))
 
       escaped-case : j < length s → Next j → (x : Bool) → escaped? (getD s j 0) ≡ x → Stops true j (j + quoted-length true (drop j s))
       escaped-case at w true e =
@@ -180,9 +184,11 @@ module _ {L A : Type 0} (r : Rules L A) (s : List ℕ) (cs : List (Part L)) (k :
   quoted-closed a q = begun ∙ scan (length s) i false (omega arith) (omega arith) .0 a q
 
   -- another byte stands there, also one that makes no pair with the backslash before it
-  pub quoted-bad : (getD s (quoted-end s i) 0 ≡ 34 → ⊥) → from r s (ahead cs (then (part k quoted-text) (then (byte QUOTE) g))) i ≡ refused 1 (quoted-end s i)
+  pub quoted-bad : (getD s (quoted-end s i) 0 ≡ 34 → ⊥)
+      → from r s (ahead cs (then (part k quoted-text) (then (byte QUOTE) g))) i ≡ refused 1 (quoted-end s i)
   quoted-bad n = begun ∙ scan (length s) i false (omega arith) (omega arith) .1 (λ a. n)
 
   -- the text ends there, also behind a backslash
-  pub quoted-cut-off : length s ≤ quoted-end s i → from r s (ahead cs (then (part k quoted-text) (then (byte QUOTE) g))) i ≡ refused 1 (quoted-end s i)
+  pub quoted-cut-off : length s ≤ quoted-end s i
+      → from r s (ahead cs (then (part k quoted-text) (then (byte QUOTE) g))) i ≡ refused 1 (quoted-end s i)
   quoted-cut-off n = begun ∙ scan (length s) i false (omega arith) (omega arith) .1 (λ a q. absurd (omega arith))

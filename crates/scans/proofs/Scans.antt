@@ -7,27 +7,28 @@ use mathlib.Core.Bool.{Bool, true, false, cond, _&&_, _||_, true≢false}
 use mathlib.Core.List.{List, [], _∷_, _++_, append-nil}
 use mathlib.Core.Option.{Option, none, some}
 use lib.Dec.{T, ltb, eqb}
-use lib.ListN.{length, getD, drop, take, length-drop, drop-of-length-le}
-use lib.Seq.{drop-cons, getD-drop, take-length}
+use lib.ListN.{length, getD, drop, take, drop-of-length-le}
+use lib.Seq.{drop-cons, take-length}
 use denote.Enum.Declared.{tagOf}
 use types.Run.{OneOf, miss}
-use Rattle.octets.proofs.Decimal.{the-type}
+use Rattle.scans.proofs.Decimal.{the-type}
 use borrow.Author.Tests.{ltb-true, ltb-false, eqb-true, eqb-false}
-use Rattle.grammar.specs.Grammar.{Class, Part, Grammar, byte, _⨾_, part, plus, spell, fold, bytes?, lower, T-left, T-right, void}
+use Rattle.grammar.specs.Grammar.{Class, Part, Grammar, byte, part, plus, spell, fold, bytes?, lower, T-left, T-right, void}
 use Rattle.grammar.specs.helpers.Derivative.{live, deriv, then}
 use Rattle.grammar.specs.Reading.{above, Rules, refused}
 use Rattle.grammar.specs.helpers.Judge.{held}
 use Rattle.grammar.specs.helpers.Checks.{ahead}
 use Rattle.grammar.specs.helpers.Scans.{slice, from}
 use Rattle.grammar.proofs.Scans.{Run, part-plus, part-plus-none, part-plus-breaks, first-is, first-not, first-none}
-use Rattle.octets.specs.declared.Decimal.{Decimal}
-use Rattle.octets.specs.declared.Decimal.the-variants.{Number, Above, Missing}
 use Rattle.octets.specs.Bytes.{digit?}
 use Rattle.octets.specs.Classes.{DIGIT}
-use Rattle.octets.specs.helpers.Runs.{run, run-end}
-use Rattle.octets.specs.Numbers.{grow, number-after, number, later, passing, decimal-of, decimal-at, above?, number-limit}
-use Rattle.octets.specs.Case.{agreeing}
-use Rattle.octets.proofs.Runs.{run-is}
+use Rattle.octets.specs.Numbers.{grow, number-after, number, above?, number-limit}
+use Rattle.scans.specs.declared.Decimal.{Decimal}
+use Rattle.scans.specs.declared.Decimal.the-variants.{Number, Above, Missing}
+use Rattle.scans.specs.helpers.Runs.{run, run-end}
+use Rattle.scans.specs.helpers.Decimals.{later, passing, decimal-of, decimal-at}
+use Rattle.scans.specs.helpers.Words.{agreeing}
+use Rattle.scans.proofs.Runs.{run-is}
 
 or-false : (x : Bool) → (x || false) ≡ x
 or-false true = refl
@@ -53,7 +54,8 @@ run-front p (b ∷ t) m h = go (p b) m h (run-front p t)
 -- ## Decimal numbers
 
 -- no digit passes the limit: no beginning of the number is above it
-passing-none : (limit n : ℕ) (t : List ℕ) → passing limit n t ≡ none → (m : ℕ) → m < length t → ltb limit (number-after n (take (suc m) t)) ≡ false
+passing-none : (limit n : ℕ) (t : List ℕ) → passing limit n t ≡ none → (m : ℕ) → m < length t
+    → ltb limit (number-after n (take (suc m) t)) ≡ false
 passing-none limit n [] e m h = absurd (omega arith)
 passing-none limit n (b ∷ t) e m h = go (ltb limit (grow n b)) refl e m h (passing-none limit (grow n b) t)
   where
@@ -69,31 +71,32 @@ passing-none limit n (b ∷ t) e m h = go (ltb limit (grow n b)) refl e m h (pas
     go false f d (suc k) a r = r (unlater (passing limit (grow n b) t) d) k (omega arith)
 
 -- the first digit that passes the limit
-pub record Passes (limit n : ℕ) (t : List ℕ) (q : ℕ) : Type 0 where
+pub record FirstPassing (limit n : ℕ) (t : List ℕ) (q : ℕ) : Type 0 where
   pub within : q < length t
   pub passes : ltb limit (number-after n (take (suc q) t)) ≡ true
   pub before : (m : ℕ) → m < q → ltb limit (number-after n (take (suc m) t)) ≡ false
 
-passing-later : (limit n b : ℕ) (t : List ℕ) (k : ℕ) → ltb limit (grow n b) ≡ false → Passes limit (grow n b) t k → Passes limit n (b ∷ t) (suc k)
+passing-later : (limit n b : ℕ) (t : List ℕ) (k : ℕ) → ltb limit (grow n b) ≡ false → FirstPassing limit (grow n b) t k
+    → FirstPassing limit n (b ∷ t) (suc k)
 passing-later limit n b t k f w = record { within = omega (arith, w .within); passes = w .passes; before = early }
   where
     early : (m : ℕ) → m < suc k → ltb limit (number-after n (take (suc m) (b ∷ t))) ≡ false
     early zero a = f
     early (suc m) a = w .before m (omega arith)
 
-passing-some : (limit n : ℕ) (t : List ℕ) (q : ℕ) → passing limit n t ≡ some q → Passes limit n t q
+passing-some : (limit n : ℕ) (t : List ℕ) (q : ℕ) → passing limit n t ≡ some q → FirstPassing limit n t q
 passing-some limit n [] q e = let z : _≡_ {A = ℕ} 0 1 = cc in absurd (omega arith)
 passing-some limit n (b ∷ t) q e = go (ltb limit (grow n b)) (passing limit (grow n b) t) refl refl e (passing-some limit (grow n b) t)
   where
     go : (x : Bool) (o : Option ℕ) → ltb limit (grow n b) ≡ x → passing limit (grow n b) t ≡ o → cond x (some 0) (later o) ≡ some q
-        → ((k : ℕ) → passing limit (grow n b) t ≡ some k → Passes limit (grow n b) t k) → Passes limit n (b ∷ t) q
+        → ((k : ℕ) → passing limit (grow n b) t ≡ some k → FirstPassing limit (grow n b) t k) → FirstPassing limit n (b ∷ t) q
     go true o f p d r =
         let v : 0 ≡ q = cc in
-        subst (λ (j : ℕ). Passes limit n (b ∷ t) j) v (record { within = omega arith; passes = f; before = λ m a. absurd (omega arith) })
+        subst (λ (j : ℕ). FirstPassing limit n (b ∷ t) j) v (record { within = omega arith; passes = f; before = λ m a. absurd (omega arith) })
     go false none f p d r = let z : _≡_ {A = ℕ} 0 1 = cc in absurd (omega arith)
     go false (some k) f p d r =
         let v : suc k ≡ q = cc in
-        subst (λ (j : ℕ). Passes limit n (b ∷ t) j) v (passing-later limit n b t k f (r k p))
+        subst (λ (j : ℕ). FirstPassing limit n (b ∷ t) j) v (passing-later limit n b t k f (r k p))
 
 -- Whatever the digits' beginnings are told by, the answer of `decimal-at` says where the first one above the limit stands.
 module _ (limit : ℕ) (s : List ℕ) (i : ℕ) where
@@ -143,7 +146,8 @@ module _ (limit : ℕ) (s : List ℕ) (i : ℕ) where
       positive zero f g h = absurd (h (omega arith))
       positive (suc m) f g h = omega arith
 
-  missed : (x : Bool) → eqb (i + length here) i ≡ x → cond x Missing (Number (number here) (i + length here)) ≡ Missing → run-end digit? s i ≡ i
+  missed : (x : Bool) → eqb (i + length here) i ≡ x → cond x Missing (Number (number here) (i + length here)) ≡ Missing
+      → run-end digit? s i ≡ i
   missed true q f = eqb-true (i + length here) i q
   missed false q f = let z : _≡_ {A = ℕ} 0 1 = cc in absurd (omega arith)
 
@@ -187,7 +191,8 @@ module _ (limit : ℕ) (s : List ℕ) (i : ℕ) where
             within = omega (arith, w .within);
             passes = ap (λ (t : List ℕ). ltb limit (number t)) (piece p (omega arith) (omega (arith, w .within)))
                 ∙ ap (λ (m : ℕ). ltb limit (number (take (suc m) here))) b ∙ w .passes;
-            before = λ n x y. ap (λ (t : List ℕ). ltb limit (number t)) (piece n x (omega (arith, w .within))) ∙ w .before (n - i) (omega arith);
+            before =
+                λ n x y. ap (λ (t : List ℕ). ltb limit (number t)) (piece n x (omega (arith, w .within))) ∙ w .before (n - i) (omega arith);
           }
 
 -- The decimal fact, over the limit: a number that stands in its grammar as a part, the byte being refused with which it passes the limit.
@@ -215,14 +220,16 @@ module _ {L A : Type 0} (r : Rules L A) (s : List ℕ) (cs : List (Part L)) (k :
       part-plus-none r s cs k DIGIT g l h apart i (run-end digit? s i) (run-is digit? s i inside) (omega (arith, missing-of limit s i d))
 
   -- a number above it
-  pub number-passes : (p e : ℕ) → decimal-at limit s i ≡ Above p e → from r s (ahead cs (then (part k (plus (byte DIGIT))) g)) i ≡ refused 2 p
+  pub number-passes : (p e : ℕ) → decimal-at limit s i ≡ Above p e
+      → from r s (ahead cs (then (part k (plus (byte DIGIT))) g)) i ≡ refused 2 p
   number-passes p e d =
       let w = above-of limit s i p e d in
       part-plus-breaks r s cs k DIGIT g l h apart i (run-end digit? s i) (run-is digit? s i inside) {z = above} p (w .first) (w .within)
       (λ n y z. quiet n (slice s i (n + 1)) (w .before n y z)) (limits p (slice s i (p + 1)) ∙ rw (w .passes))
 
 -- a number behind parts that are not above the limit
-pub above-last : {L : Type 0} (number? : L → Bool) (limit : ℕ) (cs : List (Part L)) (c : Part L) → above? number? limit cs ≡ false → number? (c .label) ≡ true
+pub above-last : {L : Type 0} (number? : L → Bool) (limit : ℕ) (cs : List (Part L)) (c : Part L) → above? number? limit cs ≡ false
+    → number? (c .label) ≡ true
     → above? number? limit (cs ++ c ∷ []) ≡ ltb limit (number (c .text))
 above-last number? limit [] c e f = rw f (or-false (ltb limit (number (c .text))))
 above-last number? limit (d ∷ cs) c e f =
@@ -287,14 +294,16 @@ module _ {L A : Type 0} (r : Rules L A) (s : List ℕ) (cs : List (Part L)) (qui
       gone : length s ≤ i → agreeing (a ∷ w) (drop i s) ≡ 0
       gone at = rw (drop-of-length-le s at)
 
-      other : i < length s → eqb (lower (getD s i 0)) (lower a) ≡ false → Spelled (a ∷ w) i (spell (a ∷ w) p g) (agreeing (a ∷ w) (drop i s))
+      other : i < length s → eqb (lower (getD s i 0)) (lower a) ≡ false
+          → Spelled (a ∷ w) i (spell (a ∷ w) p g) (agreeing (a ∷ w) (drop i s))
       other at e = subst (Spelled (a ∷ w) i (spell (a ∷ w) p g)) (sym (differs at e)) (
         λ n. absurd (omega arith),
         λ n. first-not r s cs (fold a (T-left (ltb a 256) (bytes? w) p)) (spell w (T-right (ltb a 256) (bytes? w) p) g) (spell-live w (T-right (ltb a 256) (bytes? w) p)) i at e
             ∙ ap (refused 1) still,
       )
 
-      same : i < length s → eqb (lower (getD s i 0)) (lower a) ≡ true → Spelled w (i + 1) (spell w (T-right (ltb a 256) (bytes? w) p) g) (agreeing w (drop (i + 1) s))
+      same : i < length s → eqb (lower (getD s i 0)) (lower a) ≡ true
+          → Spelled w (i + 1) (spell w (T-right (ltb a 256) (bytes? w) p) g) (agreeing w (drop (i + 1) s))
           → Spelled (a ∷ w) i (spell (a ∷ w) p g) (agreeing (a ∷ w) (drop i s))
       same at e q =
           let step = first-is r s cs (fold a (T-left (ltb a 256) (bytes? w) p)) (spell w (T-right (ltb a 256) (bytes? w) p) g) (spell-live w (T-right (ltb a 256) (bytes? w) p)) i at e none-broken in
@@ -307,7 +316,8 @@ module _ {L A : Type 0} (r : Rules L A) (s : List ℕ) (cs : List (Part L)) (qui
                 step ∙ q .1 (omega arith) ∙ ap (refused 1) z,
           )
 
-      go : (x : Bool) → ltb i (length s) ≡ x → Spelled w (i + 1) (spell w (T-right (ltb a 256) (bytes? w) p) g) (agreeing w (drop (i + 1) s))
+      go : (x : Bool) → ltb i (length s) ≡ x
+          → Spelled w (i + 1) (spell w (T-right (ltb a 256) (bytes? w) p) g) (agreeing w (drop (i + 1) s))
           → Spelled (a ∷ w) i (spell (a ∷ w) p g) (agreeing (a ∷ w) (drop i s))
       go false f q =
           let at = ltb-false i (length s) f in

@@ -19,7 +19,10 @@ pub record Front (old src new : List ℕ) (k : ℕ) : Type 0 where
 
 module _ (old src new : List ℕ) (k : ℕ) (even : length old ≡ length src) (h : Front old src new k) where
   pub front-length : length new ≡ length old
-  front-length = omega (arith, h .within, even, ap length (h .is), length-append (take k src) (drop k old), length-take-le k src (h .within), length-drop k old)
+  front-length =
+      let w = h .within in
+      let n = length-append (take k src) (drop k old) in
+      omega (arith, ap length (h .is), length-take-le k src (h .within), length-drop k old)
 
   pub front-on : k < length src → Front old src (set new k (getD src k 0)) (k + 1)
   front-on lt = record {
@@ -39,11 +42,15 @@ module _ (old src new : List ℕ) (k : ℕ) (even : length old ≡ length src) (
 module _ (old : List ℕ) (at : ℕ) (xs : List ℕ) where
   pub placed-fits : at + length xs ≤ length old → placed old at xs ≡ take at old ++ (xs ++ drop (at + length xs) old)
   unfolding placed
-  placed-fits h = at-true (leb (at + length xs) (length old)) (take at old ++ (xs ++ drop (at + length xs) old)) old (le-leb (at + length xs) (length old) h)
+  placed-fits h =
+      at-true (leb (at + length xs) (length old)) (take at old ++ (xs ++ drop (at + length xs) old)) old
+      (le-leb (at + length xs) (length old) h)
 
   pub placed-short : length old < at + length xs → placed old at xs ≡ old
   unfolding placed
-  placed-short h = at-false (leb (at + length xs) (length old)) (take at old ++ (xs ++ drop (at + length xs) old)) old (lt-leb (at + length xs) (length old) h)
+  placed-short h =
+      at-false (leb (at + length xs) (length old)) (take at old ++ (xs ++ drop (at + length xs) old)) old
+      (lt-leb (at + length xs) (length old) h)
 
   pub behind-fits : at + length xs ≤ length old → behind old at xs ≡ at + length xs
   unfolding behind
@@ -80,7 +87,8 @@ module _ (old : List ℕ) (at : ℕ) (xs : List ℕ) where
       )
 
 -- what is put behind what was put is put together with it
-pub placed-placed : (old : List ℕ) (at : ℕ) (xs : List ℕ) (p : ℕ) (ys : List ℕ) → at + (length xs + length ys) ≤ length old → p ≡ at + length xs
+pub placed-placed : (old : List ℕ) (at : ℕ) (xs : List ℕ) (p : ℕ) (ys : List ℕ) → at + (length xs + length ys) ≤ length old
+    → p ≡ at + length xs
     → placed (placed old at xs) p ys ≡ placed old at (xs ++ ys)
 placed-placed old at xs p ys h e =
     let n : length (placed old at xs) ≡ length old = placed-length old at xs in
@@ -111,9 +119,11 @@ puts-front old part at xs h e = ap₂ (λ (y z : List ℕ). take at old ++ (y ++
     ∙ split (leb (at + length xs) (length old))
     (λ t. let k : at + length xs ≤ length old = leb-true (at + length xs) (length old) t in
     ap (λ (z : List ℕ). take at old ++ z)
-    (put-fits xs (drop at old) (omega (arith, length-drop at old)) ∙ ap (λ (z : List ℕ). xs ++ z) (drop-drop (length xs) at old)) ∙ sym (placed-fits old at xs k))
+    (put-fits xs (drop at old) (omega (arith, length-drop at old)) ∙ ap (λ (z : List ℕ). xs ++ z) (drop-drop (length xs) at old))
+    ∙ sym (placed-fits old at xs k))
     (λ t. let k : length old < at + length xs = leb-false (at + length xs) (length old) t in
-    ap (λ (z : List ℕ). take at old ++ z) (put-short xs (drop at old) (omega (arith, length-drop at old))) ∙ take-append-drop at old ∙ sym (placed-short old at xs k))
+    ap (λ (z : List ℕ). take at old ++ z) (put-short xs (drop at old) (omega (arith, length-drop at old))) ∙ take-append-drop at old
+    ∙ sym (placed-short old at xs k))
   where
     all : take (length old - at) (drop at old) ≡ drop at old
     all = take-all (length old - at) (drop at old) (omega (arith, length-drop at old))
@@ -152,8 +162,10 @@ put-then old at xs new p ys new′ p′ h l e w =
 -- what a number put there has to show, where it fits and where it does not
 module _ (old part : List ℕ) (at k : ℕ) (xs : List ℕ) (h : at ≤ length old) (n : k ≡ length xs)
     (e : part ≡ Numeral.put xs (take (length old - at) (drop at old))) where
-  pub number-short : length old - at < k → (at ≡ behind old at xs) × (take at old ++ (part ++ drop (length old - at) (drop at old)) ≡ placed old at xs)
+  pub number-short : length old - at < k
+      → (at ≡ behind old at xs) × (take at old ++ (part ++ drop (length old - at) (drop at old)) ≡ placed old at xs)
   number-short l = (sym (behind-short old at xs (omega arith)), puts-front old part at xs h e)
 
-  pub number-fits : k ≤ length old - at → (at + k ≡ behind old at xs) × (take at old ++ (part ++ drop (length old - at) (drop at old)) ≡ placed old at xs)
+  pub number-fits : k ≤ length old - at
+      → (at + k ≡ behind old at xs) × (take at old ++ (part ++ drop (length old - at) (drop at old)) ≡ placed old at xs)
   number-fits l = (ap (λ (i : ℕ). at + i) n ∙ sym (behind-fits old at xs (omega arith)), puts-front old part at xs h e)

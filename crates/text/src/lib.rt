@@ -17,9 +17,9 @@ pub fn put_bytes(src: &[u8], out: &mut [u8], at: usize) -> usize
     if src.len() > out.len() - at {
         return at;
     }
-    let e = at + src.len();
-    copy(src, &mut out[at..e]);
-    e
+    let end = at + src.len();
+    copy(src, &mut out[at..end]);
+    end
 }
 
 pub fn put_decimal(n: u64, out: &mut [u8], at: usize) -> usize
@@ -29,11 +29,11 @@ pub fn put_decimal(n: u64, out: &mut [u8], at: usize) -> usize
     if at > out.len() {
         return at;
     }
-    let k = numerals::put_decimal(n, &mut out[at..]);
-    if k > out.len() - at {
+    let width = numerals::put_decimal(n, &mut out[at..]);
+    if width > out.len() - at {
         return at;
     }
-    at + k
+    at + width
 }
 
 pub fn put_hex(n: u64, out: &mut [u8], at: usize) -> usize
@@ -43,11 +43,11 @@ pub fn put_hex(n: u64, out: &mut [u8], at: usize) -> usize
     if at > out.len() {
         return at;
     }
-    let k = numerals::put_hex(n, &mut out[at..]);
-    if k > out.len() - at {
+    let width = numerals::put_hex(n, &mut out[at..]);
+    if width > out.len() - at {
         return at;
     }
-    at + k
+    at + width
 }
 
 fn copy(src: &[u8], dst: &mut [u8])

@@ -1,29 +1,37 @@
 -- The theorems of URLs: what a customer reads.
 use Prim.Native.Nat.{ℕ}
-use native.Mathlib.Omega.{arith}
-use mathlib.Core.Path.{_≡_, refl, sym, ap, _∙_}
+use Prim.Native.Char.{code}
+use mathlib.Core.Path.{_≡_}
 use mathlib.Core.Logic.{_↔_}
 use mathlib.Core.Bool.{true}
 use mathlib.Core.List.{List, _∷_, _++_}
 use Rattle.grammar.specs.Grammar.{Part, Parses}
 use Rattle.grammar.specs.Comparing.{compare, outcome, refused-at}
-use Rattle.grammar.specs.Reading.{Verdict, value, refused, Answers}
+use Rattle.grammar.specs.Reading.{above, Verdict, value, refused, Breaks, Answers}
 use Rattle.grammar.specs.helpers.Judge.{header}
+use Rattle.grammar.proofs.Demands as G
 use Rattle.grammar.proofs.Demands.{answered-exactly}
+use Rattle.scans.proofs.Limits.{number-stays}
 use Rattle.url.specs.declared.Url.{Url}
 use Rattle.url.specs.Bytes.{PATH, QUERY}
-use Rattle.url.specs.Grammar.{Name, text-of, rules}
+use Rattle.url.specs.Grammar.{Name, text-of, is-port, largest-port, rules}
 use Rattle.url.specs.Meaning.{escaped-byte, unneeded?, resolved, Page, pages, same-page}
-use Rattle.url.specs.helpers.Places.{page-in, Placed}
+use Rattle.url.specs.Equality.{Symbol, Spelled, Agree, EqualUrls}
+use Rattle.url.specs.Places.{page-in, Placed}
 use Rattle.url.proofs.Meaning.{one-way, means}
 use Rattle.url.proofs.Pages.{one-page}
-use Rattle.url.proofs.Escapes.{escape-behind}
+use Rattle.url.proofs.Escapes.{equal-spelled, one-spelling, escape-behind, spelled}
+use Rattle.url.proofs.Equality.{one-page-compared, equal-compared}
 use Rattle.url.proofs.Scan.{path-no-percent, query-no-percent}
 
--- What `Url::read` answers (its promise is `header rules s`): where the parts of a well-formed URL stand, or the refusal of the row that
--- applies first, and nothing else.
+-- What `read` answers (its promise is `header rules s`): where the parts of a well-formed URL stand, or the refusal of the row that applies
+-- first, and nothing else.
 pub reading : (s : List ℕ) (v : Verdict Url) → (header rules s ≡ v) ↔ Answers rules s v
 reading = answered-exactly rules tt tt one-way
+
+-- Row 2 has one place: "the digit that passes it", and no byte behind that digit breaks the limit again.
+pub one-place : (s : List ℕ) (j k : ℕ) → Breaks rules s above j → Breaks rules s above k → j ≡ k
+one-place = G.one-place rules tt tt one-way above (number-stays is-port largest-port)
 
 -- The same for what a URL means.
 pub meaning : (s : List ℕ) (v : Verdict Page) → (header pages s ≡ v) ↔ Answers pages s v
@@ -35,40 +43,47 @@ places = means
 
 -- ## Equality
 
+-- What `equal` answers: two URLs are equal just where both are read, and their hosts, ports, paths and queries are equal. "host ignores
+-- case, an absent path equals `/`, and an escape of a letter, a digit or one of `- _ . ! ~ * ' ( )` equals that character. All else is
+-- compared byte for byte, so `%2F` and `%2f` differ, and so do `/` and `/?`."
+pub equal : (a b : List ℕ) → (compare same-page (header pages a) (header pages b) ≡ outcome true) ↔ EqualUrls a b
+equal = equal-compared
+
+-- The same by what they mean: one page.
+pub equal-pages : (a b : List ℕ) → (compare same-page (header pages a) (header pages b) ≡ outcome true)
+    ↔ ((p : Page) × (header pages a ≡ value p) × (header pages b ≡ value p))
+equal-pages = one-page-compared
+
 -- The test of two pages holds just where they are one page.
 pub same-page-is : (p q : Page) → (same-page p q ≡ true) ↔ (p ≡ q)
 same-page-is = one-page
 
--- What `Url::compare_bytes` answers: two URLs are equal just where both are well-formed and mean one page.
-pub equal : (a b : List ℕ) → (compare same-page (header pages a) (header pages b) ≡ outcome true)
-    ↔ ((p : Page) × (header pages a ≡ value p) × (header pages b ≡ value p))
-equal a b = (to (header pages a) (header pages b) refl refl, of)
-  where
-    to : (v w : Verdict Page) → header pages a ≡ v → header pages b ≡ w → compare same-page v w ≡ outcome true
-        → (p : Page) × (header pages a ≡ value p) × (header pages b ≡ value p)
-    to (refused n p) w e f g = let z : _≡_ {A = ℕ} 0 1 = cc in absurd (omega arith)
-    to (value v) (refused n p) e f g = let z : _≡_ {A = ℕ} 0 1 = cc in absurd (omega arith)
-    to (value v) (value w) e f g =
-        let x : same-page v w ≡ true = cc in
-        (v, e, f ∙ ap value (sym (same-page-is v w .0 x)))
-
-    of : (p : Page) × (header pages a ≡ value p) × (header pages b ≡ value p) → compare same-page (header pages a) (header pages b) ≡ outcome true
-    of (p, e, f) = rw (e, f, same-page-is p p .1 refl)
-
 -- "a refusal says which it was": the first URL's, or else the second's
-pub first-refused : (a b : List ℕ) (n p : ℕ) → header pages a ≡ refused n p → compare same-page (header pages a) (header pages b) ≡ refused-at 1 n p
+pub first-refused : (a b : List ℕ) (n p : ℕ) → header pages a ≡ refused n p
+    → compare same-page (header pages a) (header pages b) ≡ refused-at 1 n p
 first-refused a b n p e = rw e
 
 pub second-refused : (a b : List ℕ) (q : Page) (n p : ℕ) → header pages a ≡ value q → header pages b ≡ refused n p
     → compare same-page (header pages a) (header pages b) ≡ refused-at 2 n p
 second-refused a b q n p e f = rw (e, f)
 
--- "an escape of a letter, a digit or one of - _ . ! ~ * ' ( ) equals that character": behind any beginning p of a path, and of a query,
--- that breaks off inside no escape
-pub escape-in-path : (i : ℕ) (p : List ℕ) (ps : List (Part Name)) → Parses (text-of PATH) i p ps → (x y : ℕ) (t : List ℕ) → unneeded? x y ≡ true
-    → resolved (p ++ 37 ∷ x ∷ y ∷ t) ≡ resolved (p ++ escaped-byte x y ∷ t)
-escape-in-path = escape-behind PATH path-no-percent
+-- ## Texts with escapes
 
-pub escape-in-query : (i : ℕ) (p : List ℕ) (ps : List (Part Name)) → Parses (text-of QUERY) i p ps → (x y : ℕ) (t : List ℕ) → unneeded? x y ≡ true
-    → resolved (p ++ 37 ∷ x ∷ y ∷ t) ≡ resolved (p ++ escaped-byte x y ∷ t)
-escape-in-query = escape-behind QUERY query-no-percent
+-- Two texts are resolved to the same bytes just where their symbols agree one by one.
+pub equal-texts : (s t : List ℕ) (us vs : List Symbol) → Spelled s us → Spelled t vs → (resolved s ≡ resolved t) ↔ Agree us vs
+equal-texts s t us vs = equal-spelled
+
+-- Each path and each query is symbols, and in one way only.
+pub path-spelled : (i : ℕ) (s : List ℕ) (ps : List (Part Name)) → Parses (text-of PATH) i s ps → (us : List Symbol) × Spelled s us
+path-spelled = spelled PATH path-no-percent
+
+pub query-spelled : (i : ℕ) (s : List ℕ) (ps : List (Part Name)) → Parses (text-of QUERY) i s ps → (us : List Symbol) × Spelled s us
+query-spelled = spelled QUERY query-no-percent
+
+pub spelled-once : (s : List ℕ) (us vs : List Symbol) → Spelled s us → Spelled s vs → us ≡ vs
+spelled-once s us vs = one-spelling
+
+-- An escape that is not needed equals its character behind any beginning that breaks off inside no escape.
+pub escape-equals : (p : List ℕ) (us : List Symbol) → Spelled p us → (x y : ℕ) (t : List ℕ) → unneeded? x y ≡ true
+    → resolved (p ++ code "%" ∷ x ∷ y ∷ t) ≡ resolved (p ++ escaped-byte x y ∷ t)
+escape-equals p us = escape-behind

@@ -1,9 +1,7 @@
 -- Cases of document 01 and of RFC 2616 3.2.3, computed.
-use Prim.Native.Nat.{ℕ}
 use Prim.Native.String.{String}
 use mathlib.Core.Path.{_≡_, refl}
 use mathlib.Core.Bool.{Bool, true, false}
-use mathlib.Core.List.{List, [], _∷_}
 use Rattle.grammar.specs.Grammar.{lower}
 use Rattle.grammar.specs.Comparing.{Comparison, outcome, refused-at, compare}
 use Rattle.grammar.specs.Text.{bytes}
@@ -29,7 +27,7 @@ rfc :
 unfolding lower digit? letter? hex? host? unreserved? path? query?
 rfc = (refl, refl)
 
--- "an absent path equals `/`", the port is compared as a number, "and so do `/` and `/?`" differ
+-- "an absent path equals `/`"; the port is compared as a number; `/` and `/?` differ
 path-or-port :
     (compared "http://a" "http://a/" ≡ outcome true)
     × (compared "http://a" "http://a:0080/" ≡ outcome true)
@@ -64,8 +62,8 @@ refusals = (refl, refl, refl, refl, refl, refl, refl)
 -- parts: an escaped `?` begins no query; an empty query is one
 parts :
     (read "http://a:65535/b%3Fc"
-    ≡ value (record { host = record { start = 7; len = 1 }; port = 65535; path = At (record { start = 14; len = 6 }); query = Absent }))
+    ≡ value (record { host = record { start = 7; length = 1 }; port = 65535; path = At (record { start = 14; length = 6 }); query = Absent }))
     × (read "http://a/?"
-    ≡ value (record { host = record { start = 7; len = 1 }; port = 80; path = At (record { start = 8; len = 1 }); query = At (record { start = 10; len = 0 }) }))
+    ≡ value (record { host = record { start = 7; length = 1 }; port = 80; path = At (record { start = 8; length = 1 }); query = At (record { start = 10; length = 0 }) }))
 unfolding lower digit? letter? hex? host? unreserved? path? query?
 parts = (refl, refl)

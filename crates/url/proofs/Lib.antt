@@ -5,5 +5,6 @@ pub mod Resolved
 pub mod Escapes
 pub mod Meaning
 pub mod Pages
+pub mod Equality
 pub mod Demands
 pub mod Examples

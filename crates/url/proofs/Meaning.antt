@@ -9,7 +9,7 @@ use mathlib.Core.Option.{Option, none, some}
 use lib.Dec.{T, eqb}
 use lib.ListN.{length, drop, take, length-append}
 use lib.Seq.{take-at, drop-at}
-use Rattle.grammar.specs.Grammar.{Part, past, lower}
+use Rattle.grammar.specs.Grammar.{Part, lower}
 use Rattle.grammar.specs.Reading.{value, refused}
 use Rattle.grammar.specs.helpers.Judge.{header}
 use Rattle.grammar.specs.helpers.Slices.{Slice, Slices}
@@ -25,7 +25,7 @@ use Rattle.url.specs.Bytes.{host?, unreserved?, path?, query?}
 use Rattle.url.specs.Grammar as G
 use Rattle.url.specs.Grammar.{Name, url, is-host, is-path, is-query, named, span, host-span, place, rules}
 use Rattle.url.specs.Meaning.{lower-all, resolved, host-text, path-text, query-text, page, pages, same-query, same-page}
-use Rattle.url.specs.helpers.Places.{piece, Inside, Within, path-in, query-in, page-in, Placed}
+use Rattle.url.specs.Places.{piece, Inside, Within, path-in, query-in, page-in, Placed}
 
 -- no URL can be read in two ways
 pub one-way : T (deterministic? url)

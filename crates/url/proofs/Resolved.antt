@@ -10,17 +10,17 @@ use lib.Dec.{eqb, leb}
 use lib.ListN.{length, getD, drop, drop-of-length-le, length-drop}
 use lib.Seq.{drop-cons}
 use Rattle.octets.specs.Bytes.{digit?, letter?, hex?, hex-value}
-use Rattle.octets.proofs.Spans.{span}
+use Rattle.octets.proofs.Spans.{by-range}
 use Rattle.octets.specs.Same.{same?}
 use Rattle.url.specs.Bytes.{unreserved?}
 use Rattle.url.specs.Meaning.{escaped-byte, unneeded?, resolved}
-use Rattle.url.specs.helpers.Places.{Resolves}
+use Rattle.url.specs.helpers.Scan.{Resolves}
 
 -- a byte that begins no escape, and one that is not needed
-pub plain-first : (a : ℕ) (t : List ℕ) → (a ≡ 37 → ⊥) → resolved (a ∷ t) ≡ a ∷ resolved t
-plain-first a [] h = refl
-plain-first a (x ∷ []) h = refl
-plain-first a (x ∷ y ∷ t) h = rw (ne-eqb a 37 h)
+pub character-first : (a : ℕ) (t : List ℕ) → (a ≡ 37 → ⊥) → resolved (a ∷ t) ≡ a ∷ resolved t
+character-first a [] h = refl
+character-first a (x ∷ []) h = refl
+character-first a (x ∷ y ∷ t) h = rw (ne-eqb a 37 h)
 
 short-first : (a : ℕ) (t : List ℕ) → length t < 2 → resolved (a ∷ t) ≡ a ∷ resolved t
 short-first a [] h = refl
@@ -58,8 +58,8 @@ cons s j h = drop-cons s j 0 h ∙ ap (λ (n : ℕ). getD s j 0 ∷ drop n s) (s
 
 module _ (s : List ℕ) (i : ℕ) where
   module _ (at : i < length s) where
-    pub kept-plain : (getD s i 0 ≡ 37 → ⊥) → Resolves s i (record { byte = getD s i 0; next = i + 1 })
-    kept-plain h = record { on = omega arith; within = omega arith; is = ap resolved (cons s i at) ∙ plain-first (getD s i 0) (drop (i + 1) s) h }
+    pub kept-character : (getD s i 0 ≡ 37 → ⊥) → Resolves s i (record { byte = getD s i 0; next = i + 1 })
+    kept-character h = record { on = omega arith; within = omega arith; is = ap resolved (cons s i at) ∙ character-first (getD s i 0) (drop (i + 1) s) h }
 
     pub kept-short : length s - i < 3 → Resolves s i (record { byte = getD s i 0; next = i + 1 })
     kept-short h = record {
@@ -102,7 +102,7 @@ small? b = cond (hex? b) (leb (hex-value b) 15) true
 
 hex-small : (b : ℕ) → b < 256 → hex? b ≡ true → hex-value b ≤ 15
 unfolding hex? small?
-hex-small b h e = leb-true (hex-value b) 15 (sym (ap (λ (t : Bool). cond t (leb (hex-value b) 15) true) e) ∙ span small? (λ (n : ℕ). true) 0 256 refl b (omega arith) (omega arith))
+hex-small b h e = leb-true (hex-value b) 15 (sym (ap (λ (t : Bool). cond t (leb (hex-value b) 15) true) e) ∙ by-range small? (λ (n : ℕ). true) 0 256 refl b (omega arith) (omega arith))
 
 module _ (b r : ℕ) (h : b < 256) (e : r ≡ cond (hex? b) (hex-value b) 16) where
   pub no-digit : 15 < r → hex? b ≡ false
@@ -140,14 +140,14 @@ unfolding unreserved? letter? digit?
 percent-reserved = refl
 
 -- an escape that is not needed, and its character
-pub escape-is : (x y : ℕ) (t : List ℕ) → unneeded? x y ≡ true → resolved (37 ∷ x ∷ y ∷ t) ≡ resolved (escaped-byte x y ∷ t)
-escape-is x y t h = unneeded-first 37 x y t refl h ∙ sym (plain-first (escaped-byte x y) t (not-percent h))
+pub escape-no-percent : (x y : ℕ) → unneeded? x y ≡ true → escaped-byte x y ≡ 37 → ⊥
+escape-no-percent x y e f =
+    true≢false (sym (last-of (hex? x) (hex? y) (unreserved? (escaped-byte x y)) e) ∙ ap unreserved? f ∙ percent-reserved)
   where
     last-of : (a b c : Bool) → (a && (b && c)) ≡ true → c ≡ true
     last-of true true c e = e
     last-of true false c e = absurd (true≢false (sym e))
     last-of false b c e = absurd (true≢false (sym e))
 
-    not-percent : unneeded? x y ≡ true → escaped-byte x y ≡ 37 → ⊥
-    not-percent e f =
-        true≢false (sym (last-of (hex? x) (hex? y) (unreserved? (escaped-byte x y)) e) ∙ ap unreserved? f ∙ percent-reserved)
+pub escape-is : (x y : ℕ) (t : List ℕ) → unneeded? x y ≡ true → resolved (37 ∷ x ∷ y ∷ t) ≡ resolved (escaped-byte x y ∷ t)
+escape-is x y t h = unneeded-first 37 x y t refl h ∙ sym (character-first (escaped-byte x y) t (escape-no-percent x y h))

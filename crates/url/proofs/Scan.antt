@@ -3,12 +3,12 @@ use Prim.Native.Nat.{ℕ, _+_, _-_, _≤_, _<_}
 use native.Mathlib.Omega.{arith}
 use borrow.Author.Tests.{ne-eqb, ltb-false}
 use mathlib.Core.Path.{_≡_, refl, sym, ap, subst, _∙_}
-use mathlib.Core.Bool.{Bool, true, false, cond, _||_, _&&_, true≢false}
+use mathlib.Core.Bool.{Bool, true, false, cond, _||_, _&&_}
 use mathlib.Core.List.{List, [], _∷_, _++_, append-assoc, append-nil}
 use mathlib.Core.Option.{Option, none, some}
-use lib.Dec.{ltb, eqb}
-use lib.ListN.{length, getD, drop, take, length-take, length-drop}
-use Rattle.grammar.specs.Grammar.{Part, Grammar, void, empty, byte, _⨾_, star, part, rest, plus}
+use lib.Dec.{ltb}
+use lib.ListN.{length, getD, length-take, length-drop}
+use Rattle.grammar.specs.Grammar.{Part, Grammar, void, empty, byte, _⨾_, star, part, rest}
 use Rattle.grammar.specs.helpers.Derivative.{deriv}
 use Rattle.grammar.specs.Reading.{above, value, refused}
 use Rattle.grammar.specs.helpers.Checks.{ahead}
@@ -16,21 +16,23 @@ use Rattle.grammar.specs.helpers.Judge.{header}
 use Rattle.grammar.specs.helpers.Scans.{slice, from}
 use Rattle.grammar.proofs.Loop.{header-short}
 use Rattle.grammar.proofs.Scans.{Run, slice-none, slice-snoc, same-judge, goes-on, stops-at, part-begins, part-plus, part-plus-none, part-star, part-star-breaks, ends-well, goes-too-far}
-use Rattle.octets.specs.declared.Decimal.the-variants.{Number, Above, Missing}
 use Rattle.octets.specs.Bytes.{digit?, letter?}
 use Rattle.octets.specs.Classes.{DIGIT}
-use Rattle.octets.specs.Case.{agreeing}
-use Rattle.octets.specs.helpers.Runs.{run-end}
-use Rattle.octets.specs.Numbers.{number, decimal-at, above?}
+use Rattle.octets.specs.Numbers.{number, above?}
 use Rattle.octets.proofs.Bytes.{told-apart}
-use Rattle.octets.proofs.Runs.{run-is}
+use Rattle.scans.specs.declared.Decimal.the-variants.{Number, Above, Missing}
+use Rattle.scans.specs.helpers.Words.{agreeing}
+use Rattle.scans.specs.helpers.Runs.{run-end}
+use Rattle.scans.specs.helpers.Decimals.{decimal-at}
+use Rattle.scans.proofs.Runs.{run-is}
 use Rattle.scans.proofs.Scans.{number-of, number-fits, missing-of, above-of, number-limits, word-reads}
 use Rattle.url.specs.declared.Url.{Url}
 use Rattle.url.specs.declared.Place.the-variants.{Absent, At}
 use Rattle.url.specs.declared.Ending.the-variants.{Ends, Breaks}
 use Rattle.url.specs.Bytes.{HOST, PATH, QUERY, host?, unreserved?, path?, query?}
 use Rattle.url.specs.Grammar as G
-use Rattle.url.specs.Grammar.{Name, host, port, path, query, text-of, query-part, path-part, port-part, host-part, scheme, is-port, is-path, is-query, named, port-text, place, largest-port, rules}
+use Rattle.url.specs.Grammar.{Name, host, port, path, query, text-of, query-part, path-part, port-part, host-part}
+use Rattle.url.specs.Grammar.{scheme, is-port, is-path, is-query, named, port-text, place, largest-port, rules}
 use Rattle.url.specs.helpers.Scan.{Found, host-at, AfterHost, heads, port-read, BeforePath, path-at, BeforeQuery}
 use Rattle.url.proofs.Text.{stretch-up, text-ends, text-breaks}
 
@@ -182,7 +184,7 @@ module _ (s : List ℕ) (e : ℕ) (a : AfterHost s e) where
           reads = behind f (w .end) (w .small);
         }
 
-    -- "empty .. is 80"
+    -- an empty port is 80
     pub port-empty : decimal-at largest-port s (e + 1) ≡ Missing → BeforePath s e 80 (e + 1)
     port-empty d = record {
       digits = some (e + 1);
@@ -199,7 +201,7 @@ module _ (s : List ℕ) (e : ℕ) (a : AfterHost s e) where
 
 abbrev read-as : (e n : ℕ) (qs : List (Part Name)) → Url
 read-as e n qs = record {
-  host = record { start = 7; len = e - 7 };
+  host = record { start = 7; length = e - 7 };
   port = n;
   path = place (named is-path qs);
   query = place (named is-query qs);
@@ -267,9 +269,9 @@ module _ (s : List ℕ) (e n i f : ℕ) (a : BeforeQuery s e n i f) where
 
   valued : (qs : List (Part Name)) → named is-port qs ≡ none → named is-path qs ≡ none → G.value (paths ++ qs)
       ≡ record {
-        host = record { start = 7; len = e - 7 };
+        host = record { start = 7; length = e - 7 };
         port = n;
-        path = At (record { start = i; len = f - i });
+        path = At (record { start = i; length = f - i });
         query = place (named is-query qs);
       }
   valued qs g h =
@@ -277,7 +279,7 @@ module _ (s : List ℕ) (e n i f : ℕ) (a : BeforeQuery s e n i f) where
       ∙ headed s e n i (a .before) (a .before .digits) (path-at s i f ∷ qs) (a .before .is) g ∙ rw path-length
 
   pub query-absent : length s ≤ f → header rules s
-      ≡ value (record { host = record { start = 7; len = e - 7 }; port = n; path = At (record { start = i; len = f - i }); query = Absent })
+      ≡ value (record { host = record { start = 7; length = e - 7 }; port = n; path = At (record { start = i; length = f - i }); query = Absent })
   query-absent h =
       a .reads ∙ same-judge rules s paths query-part empty f (λ at. absurd (omega arith)) refl refl
       ∙ ends-well rules s paths f h
@@ -330,10 +332,10 @@ module _ (s : List ℕ) (e n i f : ℕ) (a : BeforeQuery s e n i f) where
 
         pub query-reads : length s ≤ q → header rules s
             ≡ value (record {
-              host = record { start = 7; len = e - 7 };
+              host = record { start = 7; length = e - 7 };
               port = n;
-              path = At (record { start = i; len = f - i });
-              query = At (record { start = f + 1; len = q - (f + 1) });
+              path = At (record { start = i; length = f - i });
+              query = At (record { start = f + 1; length = q - (f + 1) });
             })
         query-reads g =
             ended ∙ ends-well rules s queries q g

@@ -2,7 +2,7 @@
 use mathlib.Core.Path.{refl}
 use mathlib.Core.List.{[], _∷_}
 use Rattle.octets.specs.Bytes.{digit?, letter?, hex?}
-use Rattle.octets.specs.helpers.Runs.{Bits}
+use Rattle.octets.specs.helpers.Bits.{Bits}
 use Rattle.octets.proofs.Tables.{bits}
 use Rattle.url.specs.Bytes.{host?, unreserved?, path?, query?}
 

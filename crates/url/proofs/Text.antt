@@ -3,12 +3,12 @@ use Prim.Native.Nat.{ℕ, zero, suc, _+_, _-_, _≤_, _<_}
 use native.Mathlib.Omega.{arith}
 use borrow.Author.Tests.{ne-eqb, ltb-true, ltb-false}
 use mathlib.Core.Path.{_≡_, refl, sym, ap, subst, _∙_}
-use mathlib.Core.Bool.{Bool, true, false, cond, true≢false}
+use mathlib.Core.Bool.{Bool, true, false, true≢false}
 use mathlib.Core.List.{List, [], _∷_, _++_}
 use mathlib.Core.Option.{none}
 use lib.Dec.{ltb, eqb}
 use lib.ListN.{length, getD}
-use Rattle.grammar.specs.Grammar.{Class, Part, Grammar, void, empty, byte, _⨾_, star, part, rest, grown}
+use Rattle.grammar.specs.Grammar.{Class, Part, Grammar, void, empty, byte, _⨾_, rest, grown}
 use Rattle.grammar.specs.helpers.Derivative.{live, deriv, ends, then, seq, during}
 use Rattle.grammar.specs.Reading.{Rules, Verdict, refused}
 use Rattle.grammar.specs.helpers.Judge.{held}
@@ -19,7 +19,7 @@ use Rattle.octets.specs.Bytes.{hex?}
 use Rattle.octets.specs.Classes.{HEX}
 use Rattle.url.specs.declared.Ending.the-variants.{Ends, Breaks}
 use Rattle.url.specs.Grammar.{Name, text-of}
-use Rattle.url.specs.helpers.Scan.{Hexes, Stretch, empty as nothing, plain, escape as escaped, Found}
+use Rattle.url.specs.helpers.Scan.{Hexes, Stretch, empty as nothing, character, escape as escaped, Found}
 
 -- what is left inside an escape
 abbrev one-digit : Class → Grammar Name
@@ -32,8 +32,8 @@ module _ (c : Class) (no-percent : c .has 37 ≡ false) where
   percent-apart : (b : ℕ) → c .has b ≡ true → eqb b 37 ≡ false
   percent-apart b e = ne-eqb b 37 (λ z. true≢false (sym e ∙ ap (c .has) z ∙ no-percent))
 
-  text-plain : (j b : ℕ) → c .has b ≡ true → deriv (text-of c) j b ≡ text-of c
-  text-plain j b e = rw (e, percent-apart b e)
+  text-character : (j b : ℕ) → c .has b ≡ true → deriv (text-of c) j b ≡ text-of c
+  text-character j b e = rw (e, percent-apart b e)
 
   text-percent : (j b : ℕ) → b ≡ 37 → deriv (text-of c) j b ≡ two-digits c
   text-percent j b e = rw (e, no-percent)
@@ -56,7 +56,7 @@ module _ (c : Class) (no-percent : c .has 37 ≡ false) where
 -- a stretch does not go backwards
 pub stretch-up : (p : ℕ → Bool) (s : List ℕ) (i e : ℕ) → Stretch p s i e → i ≤ e
 stretch-up p s i e nothing = omega arith
-stretch-up p s i e (plain {e = f} w at q) = omega (arith, stretch-up p s i f w)
+stretch-up p s i e (character {e = f} w at q) = omega (arith, stretch-up p s i f w)
 stretch-up p s i e (escaped {e = f} w at q d) = omega (arith, stretch-up p s i f w)
 
 -- The part k begins at the place a; g follows it, and begins with no byte of the text. No limit is broken in it.
@@ -82,9 +82,9 @@ module _ {A : Type 0} (r : Rules Name A) (s : List ℕ) (cs : List (Part Name)) 
       part-goes-on r s cs g l (upto j) x j h y at d m n o (quiet j (slice s a j ++ (getD s j 0 ∷ [])))
       ∙ ap (λ (u : Part Name). from r s (ahead cs (then (rest u y) g)) (j + 1)) (grown-on j p at)
 
-  step-plain : (j : ℕ) → a ≤ j → j < length s → c .has (getD s j 0) ≡ true → reading j (text-of c) ≡ reading (j + 1) (text-of c)
-  step-plain j p at e =
-      step j (text-of c) (text-of c) p at (text-plain c no-percent j (getD s j 0) e) refl refl (dead (deriv g j (getD s j 0)) (apart j (getD s j 0) e))
+  step-character : (j : ℕ) → a ≤ j → j < length s → c .has (getD s j 0) ≡ true → reading j (text-of c) ≡ reading (j + 1) (text-of c)
+  step-character j p at e =
+      step j (text-of c) (text-of c) p at (text-character c no-percent j (getD s j 0) e) refl refl (dead (deriv g j (getD s j 0)) (apart j (getD s j 0) e))
     where
       dead : (x : Grammar Name) → x ≡ void → seq (rest (upto j) Grammar.empty) x ≡ void
       dead x z = rw z
@@ -151,7 +151,7 @@ module _ {A : Type 0} (r : Rules Name A) (s : List ℕ) (cs : List (Part Name)) 
 
   walk : (i : ℕ) → a ≤ i → (e : ℕ) → Stretch (c .has) s i e → reading i (text-of c) ≡ reading e (text-of c)
   walk i p e nothing = refl
-  walk i p e (plain {e = f} w at q) = walk i p f w ∙ step-plain f (omega (arith, stretch-up (c .has) s i f w)) at q
+  walk i p e (character {e = f} w at q) = walk i p f w ∙ step-character f (omega (arith, stretch-up (c .has) s i f w)) at q
   walk i p e (escaped {e = f} w at q d) = walk i p f w ∙ step-escape f (omega (arith, stretch-up (c .has) s i f w)) at q d
 
   -- the text that stands at i ends at e

@@ -1,12 +1,14 @@
 -- http_URL = "http:" "//" host [ ":" port ] [ path [ "?" query ] ]: RFC 2616 3.2.2 as document 01 states it. The scheme is in any letter
 -- case; the port is at most 65,535.
 use Prim.Native.Nat.{ℕ}
+use Prim.Native.Char.{code}
 use mathlib.Core.Bool.{Bool, true, false, cond}
 use mathlib.Core.List.{List, [], _∷_}
 use mathlib.Core.Option.{Option, none, some}
 use lib.ListN.{length}
 use Rattle.grammar.specs.Grammar.{Class, Part, Grammar, byte, _⨾_, _∣_, star, plus, opt, part, just, spell}
 use Rattle.grammar.specs.Reading.{Rules}
+use Rattle.grammar.specs.Text.{bytes}
 use Rattle.octets.specs.Classes.{DIGIT, HEX}
 use Rattle.octets.specs.Numbers.{number, number-limit}
 use Rattle.url.specs.Bytes.{HOST, PATH, QUERY}
@@ -20,7 +22,7 @@ pub data Name : Type 0 where
 
 -- `%` with two hex digits
 abbrev pub escape : Grammar Name
-escape = byte (just 37 tt) ⨾ byte HEX ⨾ byte HEX
+escape = byte (just (code "%") tt) ⨾ byte HEX ⨾ byte HEX
 
 -- bytes of a class, and escapes
 abbrev pub text-of : Class → Grammar Name
@@ -28,21 +30,20 @@ text-of c = star (byte c ∣ escape)
 
 -- "A query needs a path."
 abbrev pub query-part : Grammar Name
-query-part = opt (byte (just 63 tt) ⨾ part query (text-of QUERY))
+query-part = opt (byte (just (code "?") tt) ⨾ part query (text-of QUERY))
 
 -- "Path begins with `/`."
 abbrev pub path-part : Grammar Name
-path-part = opt (part path (byte (just 47 tt) ⨾ text-of PATH) ⨾ query-part)
+path-part = opt (part path (byte (just (code "/") tt) ⨾ text-of PATH) ⨾ query-part)
 
 abbrev pub port-part : Grammar Name
-port-part = opt (byte (just 58 tt) ⨾ part port (star (byte DIGIT)))
+port-part = opt (byte (just (code ":") tt) ⨾ part port (star (byte DIGIT)))
 
 abbrev pub host-part : Grammar Name
 host-part = part host (plus (byte HOST)) ⨾ port-part ⨾ path-part
 
--- h t t p : / /
 abbrev pub scheme : List ℕ
-scheme = 104 ∷ 116 ∷ 116 ∷ 112 ∷ 58 ∷ 47 ∷ 47 ∷ []
+scheme = bytes "http://"
 
 abbrev pub url : Grammar Name
 url = spell scheme tt host-part
@@ -93,10 +94,11 @@ port-number (some c) = port-text (c .text)
 -- ## What reading answers: where the parts stand
 
 abbrev pub span : Part Name → Span
-span c = record { start = c .start; len = length (c .text) }
+span c = record { start = c .start; length = length (c .text) }
 
 abbrev pub host-span : Option (Part Name) → Span
-host-span none = record { start = 0; len = 0 }
+-- never: a URL has a host
+host-span none = record { start = 0; length = 0 }
 host-span (some c) = span c
 
 abbrev pub place : Option (Part Name) → Place

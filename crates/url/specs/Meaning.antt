@@ -1,11 +1,13 @@
 -- What a URL means, and when two are the same: RFC 2616 3.2.3 as document 01 states it.
 use Prim.Native.Nat.{ℕ, _+_, _*_}
+use Prim.Native.Char.{code}
 use mathlib.Core.Bool.{Bool, true, false, cond, _&&_}
 use mathlib.Core.List.{List, [], _∷_}
 use mathlib.Core.Option.{Option, none, some}
 use lib.Dec.{eqb}
 use Rattle.grammar.specs.Grammar.{Part, lower}
 use Rattle.grammar.specs.Reading.{Rules}
+use Rattle.grammar.specs.Text.{bytes}
 use Rattle.octets.specs.Bytes.{hex?, hex-value}
 use Rattle.octets.specs.Same.{same?}
 use Rattle.url.specs.Bytes.{unreserved?}
@@ -20,18 +22,18 @@ lower-all (b ∷ s) = lower b ∷ lower-all s
 abbrev pub escaped-byte : (x y : ℕ) → ℕ
 escaped-byte x y = hex-value x * 16 + hex-value y
 
--- "an escape of a letter, a digit or one of - _ . ! ~ * ' ( )"
+-- "an escape of a letter, a digit or one of `- _ . ! ~ * ' ( )`"
 abbrev pub unneeded? : (x y : ℕ) → Bool
 unneeded? x y = hex? x && (hex? y && unreserved? (escaped-byte x y))
 
--- a text with each such escape as its character; every other byte as it is
+-- a text with each such escape as its character; every other byte as it is. In the texts that are read two hex digits follow each `%`.
 abbrev pub resolved : List ℕ → List ℕ
 resolved [] = []
 resolved (a ∷ []) = a ∷ []
 resolved (a ∷ x ∷ []) = a ∷ x ∷ []
-resolved (a ∷ x ∷ y ∷ s) = cond (eqb a 37 && unneeded? x y) (escaped-byte x y ∷ resolved s) (a ∷ resolved (x ∷ y ∷ s))
+resolved (a ∷ x ∷ y ∷ s) = cond (eqb a (code "%") && unneeded? x y) (escaped-byte x y ∷ resolved s) (a ∷ resolved (x ∷ y ∷ s))
 
--- The page that a URL names. The path is never absent here: "an absent path equals /".
+-- The page that a URL names. The path is never absent here: "an absent path equals `/`".
 pub record Page : Type 0 where
   pub host : List ℕ
   pub port : ℕ
@@ -39,11 +41,12 @@ pub record Page : Type 0 where
   pub query : Option (List ℕ)
 
 abbrev pub host-text : Option (Part Name) → List ℕ
+-- never: a URL has a host
 host-text none = []
 host-text (some c) = lower-all (c .text)
 
 abbrev pub path-text : Option (Part Name) → List ℕ
-path-text none = 47 ∷ []
+path-text none = bytes "/"
 path-text (some c) = resolved (c .text)
 
 abbrev pub query-text : Option (Part Name) → Option (List ℕ)

@@ -5,18 +5,19 @@ ghost use Prim.Native.Nat.{ℕ, _+_, _-_, _<_, _≤_};
 ghost use lib.ListN.{length};
 ghost use Rattle.grammar.specs.Comparing.{compare as comparing};
 ghost use Rattle.grammar.specs.helpers.Judge.{header};
-ghost use Rattle.octets.specs.helpers.Runs.{Bits};
+ghost use Rattle.octets.specs.helpers.Bits.{Bits};
 ghost use Rattle.octets.specs.Comparing.{comparison};
 ghost use Rattle.url.specs.Grammar.{rules};
 ghost use Rattle.octets.specs.Same.{same?};
 ghost use Rattle.url.specs.Meaning.{resolved, same-query, same-page, pages};
-ghost use Rattle.url.specs.helpers.Places.{Resolves, piece, Inside, Within, path-in, query-in, page-in, Placed};
-ghost use Rattle.url.specs.Reading.{verdict, refusal-of};
+ghost use Rattle.url.specs.Places.{piece, Inside, Within, path-in, query-in, page-in, Placed};
+ghost use Rattle.url.specs.Reading.{verdict};
 ghost use Rattle.url.specs.helpers.Scan.{Hexes, Found, AfterHost, BeforePath, BeforeQuery};
+ghost use Rattle.url.specs.helpers.Scan.{host-start, url-with, Resolves, refusal-of};
 use octets::Class;
 use octets::Compared;
-use octets::Decimal;
 use octets::Refusal;
+use scans::Decimal;
 
 // The largest port.
 const PORT_LIMIT: u64 = 65535;
@@ -25,7 +26,7 @@ const PORT_LIMIT: u64 = 65535;
 const DEFAULT_PORT: u16 = 80;
 
 // The bytes of `http://`.
-const SCHEME_LEN: usize = 7;
+const SCHEME_LENGTH: usize = 7;
 
 // Letters, digits, `-` and `.`.
 const HOST: Class = [0x3ff600000000000, 0x7fffffe07fffffe, 0, 0];
@@ -43,7 +44,7 @@ const HEX: Class = [0x3ff000000000000, 0x7e0000007e, 0, 0];
 // Where a part stands in the text.
 pub struct Span {
     pub start: usize,
-    pub len: usize,
+    pub length: usize,
 }
 
 // A part that may be absent. A part that is there may be empty.
@@ -76,42 +77,49 @@ enum Ending {
     Breaks(usize),
 }
 
-impl Url {
-    // `http://` in any letter case, host, optional port, optional path, optional query.
-    pub fn read(s: &[u8]) -> Reading
-        ensures { λ r. ⌜ verdict r ≡ header rules (now (s .entry)) ⌝ }
-    {
-        if s.len() > octets::VALUE_LIMIT {
-            return refused(13, octets::VALUE_LIMIT);
-        }
-        let agreed = octets::word_at(b"http://", s, 0);
-        if agreed < SCHEME_LEN {
-            return refused(1, agreed);
-        }
-        let end = octets::class_end(HOST, s, SCHEME_LEN);
-        if end <= SCHEME_LEN {
-            return refused(1, SCHEME_LEN);
-        }
-        read_port(s, end)
+// `http://` in any letter case, host, optional port, optional path, optional query.
+pub fn read(s: &[u8]) -> Reading
+    ensures { λ r. ⌜ verdict r ≡ header rules (now (s .entry)) ⌝ }
+{
+    if s.len() > octets::VALUE_LIMIT {
+        return Reading::Refused(Refusal {
+            number: octets::VALUE_TOO_LONG,
+            place: octets::VALUE_LIMIT,
+        });
     }
+    let agreed = scans::word_at(b"http://", s, 0);
+    if agreed < SCHEME_LENGTH {
+        return Reading::Refused(Refusal {
+            number: octets::MALFORMED,
+            place: agreed,
+        });
+    }
+    let end = scans::class_end(HOST, s, SCHEME_LENGTH);
+    if end <= SCHEME_LENGTH {
+        return Reading::Refused(Refusal {
+            number: octets::MALFORMED,
+            place: SCHEME_LENGTH,
+        });
+    }
+    read_port(s, end)
+}
 
-    // Reads the first, then the second, and compares what they mean.
-    pub fn compare_bytes(a: &[u8], b: &[u8]) -> Compared
-        ensures { λ r. ⌜ comparison r ≡ comparing same-page (header pages (now (a .entry))) (header pages (now (b .entry))) ⌝ }
-    {
-        let first = Url::read(a);
-        let Reading::Read(u) = first else {
-            return Compared::FirstRefused(refusal(first));
-        };
-        let second = Url::read(b);
-        let Reading::Read(v) = second else {
-            return Compared::SecondRefused(refusal(second));
-        };
-        if same_url(a, u, b, v) {
-            Compared::Same
-        } else {
-            Compared::Different
-        }
+// Reads the first, then the second, and compares what they mean.
+pub fn equal(a: &[u8], b: &[u8]) -> Compared
+    ensures { λ r. ⌜ comparison r ≡ comparing same-page (header pages (now (a .entry))) (header pages (now (b .entry))) ⌝ }
+{
+    let first = read(a);
+    let Reading::Read(u) = first else {
+        return Compared::FirstRefused(refusal(first));
+    };
+    let second = read(b);
+    let Reading::Read(v) = second else {
+        return Compared::SecondRefused(refusal(second));
+    };
+    if same_url(a, u, b, v) {
+        Compared::Same
+    } else {
+        Compared::Different
     }
 }
 
@@ -128,12 +136,6 @@ fn refusal(r: Reading) -> Refusal
     }
 }
 
-fn refused(number: u8, place: usize) -> Reading
-    ensures { λ r. ⌜ r ≡ Reading.Refused (record { number = number; place = place }) ⌝ }
-{
-    Reading::Refused(Refusal { number, place })
-}
-
 // Reads on from the place behind the host.
 fn read_port(s: &[u8], host_end: usize) -> Reading
     requires { ⌜ AfterHost (now s) «host_end» ⌝ }
@@ -145,9 +147,12 @@ fn read_port(s: &[u8], host_end: usize) -> Reading
     if s[host_end] != b':' {
         return read_path(s, host_end, DEFAULT_PORT, host_end);
     }
-    match octets::read_decimal(s, host_end + 1, PORT_LIMIT) {
+    match scans::read_decimal(s, host_end + 1, PORT_LIMIT) {
         Decimal::Number { value, end } => read_path(s, host_end, value as u16, end),
-        Decimal::Above { place, end: _ } => refused(2, place),
+        Decimal::Above { place, end: _ } => Reading::Refused(Refusal {
+            number: octets::NUMBER_ABOVE_LIMIT,
+            place,
+        }),
         Decimal::Missing => read_path(s, host_end, DEFAULT_PORT, host_end + 1),
     }
 }
@@ -157,23 +162,21 @@ fn read_path(s: &[u8], host_end: usize, port: u16, at: usize) -> Reading
     requires { ⌜ BeforePath (now s) «host_end» port at ⌝ }
     ensures { λ r. ⌜ verdict r ≡ header rules (now (s .entry)) ⌝ }
 {
-    let host = between(SCHEME_LEN, host_end);
     if s.len() <= at {
-        let path = Place::Absent;
-        let query = Place::Absent;
-        return Reading::Read(Url {
-            host,
-            port,
-            path,
-            query,
-        });
+        return url_read(host_end, port, Place::Absent, Place::Absent);
     }
     if s[at] != b'/' {
-        return refused(1, at);
+        return Reading::Refused(Refusal {
+            number: octets::MALFORMED,
+            place: at,
+        });
     }
     let ending = text_end(PATH, s, at + 1);
     match ending {
-        Ending::Breaks(place) => refused(1, place),
+        Ending::Breaks(place) => Reading::Refused(Refusal {
+            number: octets::MALFORMED,
+            place,
+        }),
         Ending::Ends(end) => read_query(s, host_end, port, at, end),
     }
 }
@@ -183,45 +186,56 @@ fn read_query(s: &[u8], host_end: usize, port: u16, path_start: usize, at: usize
     requires { ⌜ BeforeQuery (now s) «host_end» port «path_start» at ⌝ }
     ensures { λ r. ⌜ verdict r ≡ header rules (now (s .entry)) ⌝ }
 {
-    let host = between(SCHEME_LEN, host_end);
     let path = Place::At(between(path_start, at));
     if s.len() <= at {
-        let query = Place::Absent;
-        return Reading::Read(Url {
-            host,
-            port,
-            path,
-            query,
-        });
+        return url_read(host_end, port, path, Place::Absent);
     }
     if s[at] != b'?' {
-        return refused(1, at);
+        return Reading::Refused(Refusal {
+            number: octets::MALFORMED,
+            place: at,
+        });
     }
     let ending = text_end(QUERY, s, at + 1);
     match ending {
-        Ending::Breaks(place) => refused(1, place),
+        Ending::Breaks(place) => Reading::Refused(Refusal {
+            number: octets::MALFORMED,
+            place,
+        }),
         Ending::Ends(end) => {
             if end < s.len() {
-                return refused(1, end);
+                return Reading::Refused(Refusal {
+                    number: octets::MALFORMED,
+                    place: end,
+                });
             }
             let query = Place::At(between(at + 1, end));
-            Reading::Read(Url {
-                host,
-                port,
-                path,
-                query,
-            })
+            url_read(host_end, port, path, query)
         }
     }
 }
 
+// A URL whose host ends at `host_end`.
+fn url_read(host_end: usize, port: u16, path: Place, query: Place) -> Reading
+    requires { ⌜ host-start ≤ «host_end» ⌝ }
+    ensures { λ r. ⌜ r ≡ Reading.Read (url-with «host_end» port path query) ⌝ }
+{
+    let host = between(SCHEME_LENGTH, host_end);
+    Reading::Read(Url {
+        host,
+        port,
+        path,
+        query,
+    })
+}
+
 fn between(start: usize, end: usize) -> Span
     requires { ⌜ start ≤ end ⌝ }
-    ensures { λ r. ⌜ r ≡ record { start = start; len = end - start } ⌝ }
+    ensures { λ r. ⌜ r ≡ record { start = start; length = end - start } ⌝ }
 {
     Span {
         start,
-        len: end - start,
+        length: end - start,
     }
 }
 
@@ -273,54 +287,54 @@ fn same_url(a: &[u8], u: Url, b: &[u8], v: Url) -> bool
     requires { ⌜ Placed (now a) u × Placed (now b) v ⌝ }
     ensures { λ r. ⌜ r ≡ same-page (page-in (now (a .entry)) u) (page-in (now (b .entry)) v) ⌝ }
 {
-    let x = u.host;
-    let y = v.host;
-    if !octets::same_ignoring_case(part(a, x), part(b, y)) {
+    let host_a = u.host;
+    let host_b = v.host;
+    if !octets::same_ignoring_case(part(a, host_a), part(b, host_b)) {
         return false;
     }
     if u.port != v.port {
         return false;
     }
-    let p = u.path;
-    let q = v.path;
-    if !same_path(a, p, b, q) {
+    let path_a = u.path;
+    let path_b = v.path;
+    if !same_path(a, path_a, b, path_b) {
         return false;
     }
-    let m = u.query;
-    let n = v.query;
-    same_query(a, m, b, n)
+    let query_a = u.query;
+    let query_b = v.query;
+    same_query(a, query_a, b, query_b)
 }
 
 // Are two queries the same? An absent one and an empty one are not.
-fn same_query(a: &[u8], p: Place, b: &[u8], q: Place) -> bool
-    requires { ⌜ Within (now a) p × Within (now b) q ⌝ }
-    ensures { λ r. ⌜ r ≡ same-query (query-in (now (a .entry)) p) (query-in (now (b .entry)) q) ⌝ }
+fn same_query(a: &[u8], place_a: Place, b: &[u8], place_b: Place) -> bool
+    requires { ⌜ Within (now a) «place_a» × Within (now b) «place_b» ⌝ }
+    ensures { λ r. ⌜ r ≡ same-query (query-in (now (a .entry)) «place_a») (query-in (now (b .entry)) «place_b») ⌝ }
 {
-    match p {
-        Place::Absent => match q {
+    match place_a {
+        Place::Absent => match place_b {
             Place::Absent => true,
             Place::At(_) => false,
         },
-        Place::At(x) => match q {
+        Place::At(span_a) => match place_b {
             Place::Absent => false,
-            Place::At(y) => same_text(part(a, x), part(b, y)),
+            Place::At(span_b) => same_text(part(a, span_a), part(b, span_b)),
         },
     }
 }
 
 // Are two paths the same? An absent one is `/`.
-fn same_path(a: &[u8], p: Place, b: &[u8], q: Place) -> bool
-    requires { ⌜ Within (now a) p × Within (now b) q ⌝ }
-    ensures { λ r. ⌜ r ≡ same? (path-in (now (a .entry)) p) (path-in (now (b .entry)) q) ⌝ }
+fn same_path(a: &[u8], place_a: Place, b: &[u8], place_b: Place) -> bool
+    requires { ⌜ Within (now a) «place_a» × Within (now b) «place_b» ⌝ }
+    ensures { λ r. ⌜ r ≡ same? (path-in (now (a .entry)) «place_a») (path-in (now (b .entry)) «place_b») ⌝ }
 {
-    match p {
-        Place::Absent => match q {
+    match place_a {
+        Place::Absent => match place_b {
             Place::Absent => true,
-            Place::At(y) => same_text(b"/", part(b, y)),
+            Place::At(span_b) => same_text(b"/", part(b, span_b)),
         },
-        Place::At(x) => match q {
-            Place::Absent => same_text(part(a, x), b"/"),
-            Place::At(y) => same_text(part(a, x), part(b, y)),
+        Place::At(span_a) => match place_b {
+            Place::Absent => same_text(part(a, span_a), b"/"),
+            Place::At(span_b) => same_text(part(a, span_a), part(b, span_b)),
         },
     }
 }
@@ -331,7 +345,7 @@ fn part<'a>(s: &'a [u8], x: Span) -> &'a [u8]
     ensures { λ r. ⌜ now r ≡ piece (now (s .entry)) x ⌝ }
 {
     let start = x.start;
-    let end = x.start + x.len;
+    let end = x.start + x.length;
     &s[start..end]
 }
 

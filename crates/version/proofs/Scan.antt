@@ -1,5 +1,6 @@
 -- The reader's scans against the grammar: the name, the major number, the point, the minor number, the end.
 use Prim.Native.Nat.{ℕ, suc, _+_, _≤_, _<_}
+use Prim.Native.Char.{code}
 use native.Mathlib.Omega.{arith}
 use borrow.Author.Tests.{ne-eqb, eq-eqb, lt-ltb, le-ltb, ltb-false}
 use mathlib.Core.Path.{_≡_, refl, sym, ap, ap₂, _∙_}
@@ -17,13 +18,14 @@ use Rattle.grammar.specs.helpers.Scans.{slice, from}
 use Rattle.grammar.proofs.Shapes.{byte-step}
 use Rattle.grammar.proofs.Loop.{header-short}
 use Rattle.grammar.proofs.Scans.{Run, first-is, first-not, first-none, ends-well, goes-too-far}
-use Rattle.octets.specs.declared.Decimal.the-variants.{Number, Above, Missing}
 use Rattle.octets.specs.Bytes.{digit?}
 use Rattle.octets.specs.Classes.{DIGIT}
-use Rattle.octets.specs.Case.{agreeing}
-use Rattle.octets.specs.Numbers.{number, decimal-at, number-limit}
+use Rattle.octets.specs.Numbers.{number, number-limit}
 use Rattle.octets.proofs.Bytes.{digit-low}
-use Rattle.octets.proofs.Runs.{run-is}
+use Rattle.scans.specs.declared.Decimal.the-variants.{Number, Above, Missing}
+use Rattle.scans.specs.helpers.Words.{agreeing}
+use Rattle.scans.specs.helpers.Decimals.{decimal-at}
+use Rattle.scans.proofs.Runs.{run-is}
 use Rattle.scans.proofs.Scans.{number-of, number-fits, number-reads, number-missing, number-passes, number-limits, word-reads}
 use Rattle.scans.proofs.Words.{word-whole, word-inside}
 use Rattle.version.specs.Grammar.{Name, major, minor, http, numbers, version, largest, rules}
@@ -31,7 +33,9 @@ use Rattle.version.specs.helpers.Scan.{point-and-minor, major-part, Afte
 
 -- no digit begins what follows the major number
 point-apart : (j b : ℕ) → digit? b ≡ true → deriv point-and-minor j b ≡ void
-point-apart j b d = byte-step (just 46 tt) j b (part minor (plus (byte DIGIT))) ∙ rw (ne-eqb b 46 (λ e. absurd (omega (arith, digit-low b d))))
+point-apart j b d =
+    byte-step (just (code ".") tt) j b (part minor (plus (byte DIGIT)))
+    ∙ rw (ne-eqb b (code ".") (λ e. absurd (omega (arith, digit-low b d))))
 
 -- all of the name stands there
 pub name-is : (s : List ℕ) → 5 ≤ agreeing http s → agreeing http s ≡ 5
@@ -43,13 +47,15 @@ name-inside s h = word-inside http s h
 module _ (s : List ℕ) (short : length s ≤ 8192) where
   -- the name
   pub name-not : agreeing http s < 5 → header rules s ≡ refused 1 (agreeing http s)
-  name-not h = header-short rules s short ∙ word-reads rules s [] (λ n. refl) numbers refl refl http tt 0 .1 h ∙ ap (refused 1) (omega arith)
+  name-not h =
+      header-short rules s short ∙ word-reads rules s [] (λ n. refl) numbers refl refl http tt 0 .1 h ∙ ap (refused 1) (omega arith)
 
   module _ (h : agreeing http s ≡ 5) (long : 5 ≤ length s) where
     named : header rules s ≡ from rules s numbers 5
     named = header-short rules s short ∙ word-reads rules s [] (λ n. refl) numbers refl refl http tt 0 .0 h
 
-    limits : (n : ℕ) (t : List ℕ) → rules .limit n ([] ++ record { label = major; start = 5; text = t } ∷ []) ≡ cond (ltb largest (number t)) (some above) none
+    limits : (n : ℕ) (t : List ℕ)
+        → rules .limit n ([] ++ record { label = major; start = 5; text = t } ∷ []) ≡ cond (ltb largest (number t)) (some above) none
     limits = number-limits (λ l. true) largest [] refl major 5 refl
 
     pub major-missing : decimal-at largest s 5 ≡ Missing → header rules s ≡ refused 1 5
@@ -77,15 +83,18 @@ module _ (s : List ℕ) (n e : ℕ) (a : AfterMajor s n e) where
   below = number-limits (λ l. true) largest [] refl major 5 refl e (slice s 5 e) ∙ rw (a .small)
 
   pub point-none : length s ≤ e → header rules s ≡ refused 1 e
-  point-none h = a .reads ∙ first-none rules s cs (just 46 tt) (part minor (plus (byte DIGIT))) refl e h
+  point-none h = a .reads ∙ first-none rules s cs (just (code ".") tt) (part minor (plus (byte DIGIT))) refl e h
 
   module _ (at : e < length s) where
-    pub point-not : (getD s e 0 ≡ 46 → ⊥) → header rules s ≡ refused 1 e
-    point-not h = a .reads ∙ first-not rules s cs (just 46 tt) (part minor (plus (byte DIGIT))) refl e at (ne-eqb (getD s e 0) 46 h)
+    pub point-not : (getD s e 0 ≡ code "." → ⊥) → header rules s ≡ refused 1 e
+    point-not h =
+        a .reads ∙ first-not rules s cs (just (code ".") tt) (part minor (plus (byte DIGIT))) refl e at (ne-eqb (getD s e 0) (code ".") h)
 
-    module _ (h : getD s e 0 ≡ 46) where
+    module _ (h : getD s e 0 ≡ code ".") where
       pointed : header rules s ≡ from rules s (ahead cs (part minor (plus (byte DIGIT)))) (e + 1)
-      pointed = a .reads ∙ first-is rules s cs (just 46 tt) (part minor (plus (byte DIGIT))) refl e at (eq-eqb (getD s e 0) 46 h) below
+      pointed =
+          a .reads ∙ first-is rules s cs (just (code ".") tt) (part minor (plus (byte DIGIT))) refl e at
+          (eq-eqb (getD s e 0) (code ".") h) below
 
       apart : (j b : ℕ) → digit? b ≡ true → deriv {L = Name} empty j b ≡ void
       apart j b d = refl
@@ -93,7 +102,8 @@ module _ (s : List ℕ) (n e : ℕ) (a : AfterMajor s n e) where
       inside : e + 1 ≤ length s
       inside = omega arith
 
-      minor-limits : (k : ℕ) (t : List ℕ) → rules .limit k (cs ++ record { label = minor; start = e + 1; text = t } ∷ []) ≡ cond (ltb largest (number t)) (some above) none
+      minor-limits : (k : ℕ) (t : List ℕ)
+          → rules .limit k (cs ++ record { label = minor; start = e + 1; text = t } ∷ []) ≡ cond (ltb largest (number t)) (some above) none
       minor-limits = number-limits (λ l. true) largest cs (or-one (a .small)) minor (e + 1) refl
         where
           or-one : {x : Bool} → x ≡ false → (x || false) ≡ false
@@ -106,11 +116,14 @@ module _ (s : List ℕ) (n e : ℕ) (a : AfterMajor s n e) where
       minor-passes p f d = pointed ∙ number-passes rules s cs minor empty refl refl apart (e + 1) inside largest minor-limits p f d
 
       module _ (v f : ℕ) (d : decimal-at largest s (e + 1) ≡ Number v f) where
-        read-on : header rules s ≡ from rules s (ahead (cs ++ record { label = minor; start = e + 1; text = slice s (e + 1) f } ∷ []) empty) f
+        abbrev both : List (Part Name)
+        both = cs ++ record { label = minor; start = e + 1; text = slice s (e + 1) f } ∷ []
+
+        read-on : header rules s ≡ from rules s (ahead both empty) f
         read-on = pointed ∙ number-reads rules s cs minor empty refl refl apart (e + 1) inside largest minor-limits v f d
 
         pub version-goes-on : f < length s → header rules s ≡ refused 1 f
-        version-goes-on h = read-on ∙ goes-too-far rules s (cs ++ record { label = minor; start = e + 1; text = slice s (e + 1) f } ∷ []) f h
+        version-goes-on h = read-on ∙ goes-too-far rules s both f h
 
         pub minor-small : v ≤ 65535
         minor-small =
@@ -119,7 +132,7 @@ module _ (s : List ℕ) (n e : ℕ) (a : AfterMajor s n e) where
 
         pub version-reads : length s ≤ f → header rules s ≡ value (record { major = n; minor = v })
         version-reads h =
-            read-on ∙ ends-well rules s (cs ++ record { label = minor; start = e + 1; text = slice s (e + 1) f } ∷ []) f h
+            read-on ∙ ends-well rules s both f h
             ∙ ap₂ (λ (x y : ℕ). value (record { major = x; minor = y })) (a .is) (number-of largest s (e + 1) v f d .is)
 
 pub major-small : (s : List ℕ) (n e : ℕ) → AfterMajor s n e → n ≤ 65535

@@ -1,5 +1,6 @@
 -- What the writer's parts leave in the lent bytes, and when a version is too large.
 use Prim.Native.Nat.{ℕ, suc, _+_, _≤_, _<_}
+use Prim.Native.Char.{code}
 use native.Mathlib.Omega.{arith}
 use borrow.Author.Tests.{lt-ltb, le-ltb, ltb-false}
 use mathlib.Core.Path.{_≡_, refl, sym, ap, _∙_}
@@ -16,17 +17,18 @@ use Rattle.version.specs.Grammar.{http, largest}
 use Rattle.version.specs.Writing.{version-text, too-large}
 
 pub text-length : (v : Version) → length (version-text v) ≡ 6 + (length (numeral 10 (v .major)) + length (numeral 10 (v .minor)))
-text-length v = omega (arith, length-append (numeral 10 (v .major)) (46 ∷ numeral 10 (v .minor)))
+text-length v = omega (arith, length-append (numeral 10 (v .major)) (code "." ∷ numeral 10 (v .minor)))
 
 -- the name, the major number, the point, the minor number, one behind the other
 pub text-put : (v : Version) (old l₁ l₂ l₃ l₄ : List ℕ) (a b c d : ℕ) → length (version-text v) ≤ length old
     → a ≡ behind old 0 http → l₁ ≡ placed old 0 http
     → b ≡ behind l₁ a (numeral 10 (v .major)) → l₂ ≡ placed l₁ a (numeral 10 (v .major))
-    → c ≡ behind l₂ b (46 ∷ []) → l₃ ≡ placed l₂ b (46 ∷ [])
+    → c ≡ behind l₂ b (code "." ∷ []) → l₃ ≡ placed l₂ b (code "." ∷ [])
     → d ≡ behind l₃ c (numeral 10 (v .minor)) → l₄ ≡ placed l₃ c (numeral 10 (v .minor))
     → l₄ ≡ version-text v ++ drop (length (version-text v)) old
 text-put v old l₁ l₂ l₃ l₄ a b c d h pa e₁ pb e₂ pc e₃ pd e₄ =
-    p₄ .is ∙ ap (placed old 0) whole ∙ placed-fits old 0 (version-text v) (omega arith) ∙ ap (λ (n : ℕ). version-text v ++ drop n old) nought
+    p₄ .is ∙ ap (placed old 0) whole ∙ placed-fits old 0 (version-text v) (omega arith)
+    ∙ ap (λ (n : ℕ). version-text v ++ drop n old) nought
   where
     major : List ℕ
     major = numeral 10 (v .major)
@@ -43,18 +45,20 @@ text-put v old l₁ l₂ l₃ l₄ a b c d h pa e₁ pb e₂ pc e₃ pd e₄ =
     p₂ : Put old 0 (http ++ numeral 10 (v .major)) l₂ b
     p₂ = put-then old 0 http l₁ a (numeral 10 (v .major)) l₂ b p₁ (omega (arith, text-length v)) pb e₂
 
-    p₃ : Put old 0 ((http ++ numeral 10 (v .major)) ++ (46 ∷ [])) l₃ c
-    p₃ = put-then old 0 (http ++ numeral 10 (v .major)) l₂ b (46 ∷ []) l₃ c p₂ (omega (arith, text-length v, length-append http (numeral 10 (v .major)))) pc e₃
+    p₃ : Put old 0 ((http ++ numeral 10 (v .major)) ++ (code "." ∷ [])) l₃ c
+    p₃ =
+        put-then old 0 (http ++ numeral 10 (v .major)) l₂ b (code "." ∷ []) l₃ c p₂
+        (omega (arith, text-length v, length-append http (numeral 10 (v .major)))) pc e₃
 
-    p₄ : Put old 0 (((http ++ numeral 10 (v .major)) ++ (46 ∷ [])) ++ numeral 10 (v .minor)) l₄ d
+    p₄ : Put old 0 (((http ++ numeral 10 (v .major)) ++ (code "." ∷ [])) ++ numeral 10 (v .minor)) l₄ d
     p₄ =
-        put-then old 0 ((http ++ numeral 10 (v .major)) ++ (46 ∷ [])) l₃ c (numeral 10 (v .minor)) l₄ d p₃
-        (omega (arith, text-length v, length-append http (numeral 10 (v .major)), length-append (http ++ numeral 10 (v .major)) (46 ∷ []))) pd e₄
+        put-then old 0 ((http ++ numeral 10 (v .major)) ++ (code "." ∷ [])) l₃ c (numeral 10 (v .minor)) l₄ d p₃
+        (omega (arith, text-length v, length-append http major, length-append (http ++ major) (code "." ∷ []))) pd e₄
 
-    whole : ((http ++ numeral 10 (v .major)) ++ (46 ∷ [])) ++ numeral 10 (v .minor) ≡ version-text v
+    whole : ((http ++ numeral 10 (v .major)) ++ (code "." ∷ [])) ++ numeral 10 (v .minor) ≡ version-text v
     whole =
-        append-assoc (http ++ numeral 10 (v .major)) (46 ∷ []) (numeral 10 (v .minor))
-        ∙ append-assoc http (numeral 10 (v .major)) (46 ∷ numeral 10 (v .minor))
+        append-assoc (http ++ numeral 10 (v .major)) (code "." ∷ []) (numeral 10 (v .minor))
+        ∙ append-assoc http (numeral 10 (v .major)) (code "." ∷ numeral 10 (v .minor))
 
 -- a number that is not too large has few digits
 pub few-digits : (n : ℕ) → n ≤ largest → length (numeral 10 n) ≤ 16

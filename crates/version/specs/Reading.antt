@@ -1,4 +1,4 @@
--- Document 01's numbers and values for each case of the answers; the order of versions.
+-- Document 01's numbers and values for each case of the answers; the order of versions; the versions that have names.
 use Prim.Native.Nat.{ℕ}
 use mathlib.Core.Bool.{cond}
 use lib.Dec.{ltb}
@@ -27,3 +27,13 @@ abbrev pub precedence : Version → Version → Order
 precedence v w =
     cond (ltb (v .major) (w .major)) Less (cond (ltb (w .major) (v .major)) Greater
     (cond (ltb (v .minor) (w .minor)) Less (cond (ltb (w .minor) (v .minor)) Greater Equal)))
+
+-- "Version 1.1 and version 1.0 are named constants of the version itself": what the constants are
+abbrev pub numbered : ℕ → ℕ → Version
+numbered a b = record { major = a; minor = b }
+
+abbrev pub http-1-1 : Version
+http-1-1 = numbered 1 1
+
+abbrev pub http-1-0 : Version
+http-1-0 = numbered 1 0

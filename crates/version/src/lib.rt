@@ -7,13 +7,19 @@ ghost use lib.ListN.{length, drop};
 ghost use Rattle.grammar.specs.Comparing.{compare as comparing};
 ghost use Rattle.grammar.specs.helpers.Judge.{header};
 ghost use Rattle.version.specs.Grammar.{rules};
-ghost use Rattle.version.specs.Reading.{verdict, comparison, precedence};
+ghost use Rattle.version.specs.Reading.{verdict, comparison, precedence, numbered, http-1-1, http-1-0};
 ghost use Rattle.version.specs.helpers.Scan.{AfterMajor};
 ghost use Rattle.version.specs.Writing.{version-text, too-large, version-writing, version-output};
 ghost use Rattle.octets.specs.Writing.{written};
-use octets::Decimal;
+use octets::MALFORMED;
+use octets::NUMBER_ABOVE_LIMIT;
+use octets::OUT_OF_RANGE;
+use octets::OUTPUT_TOO_SHORT;
 use octets::Refusal;
+use octets::VALUE_LIMIT;
+use octets::VALUE_TOO_LONG;
 use octets::Written;
+use scans::Decimal;
 
 // The largest number in a version.
 const NUMBER_LIMIT: u64 = 65535;
@@ -49,9 +55,11 @@ impl Version {
 
     pub const HTTP_1_0: Version = Version { major: 1, minor: 0 };
 
-    // Ordered by major, then minor, as numbers.
+    // Ordered by major, then minor, as numbers. A constant has no contract: what the two above are is promised here.
     pub fn compare(self, other: Version) -> Order
-        ensures { λ r. ⌜ r ≡ precedence self other ⌝ }
+        ensures orders { λ r. ⌜ r ≡ precedence self other ⌝ }
+        ensures later { λ _. do ⌜ numbered (← ⟦Version::HTTP_1_1.major⟧ .entry) (← ⟦Version::HTTP_1_1.minor⟧ .entry) ≡ http-1-1 ⌝ }
+        ensures earlier { λ _. do ⌜ numbered (← ⟦Version::HTTP_1_0.major⟧ .entry) (← ⟦Version::HTTP_1_0.minor⟧ .entry) ≡ http-1-0 ⌝ }
     {
         if self.major < other.major {
             return Order::Less;
@@ -72,17 +80,29 @@ impl Version {
     pub fn read(s: &[u8]) -> Reading
         ensures { λ r. ⌜ verdict r ≡ header rules (now (s .entry)) ⌝ }
     {
-        if s.len() > octets::VALUE_LIMIT {
-            return refused(13, octets::VALUE_LIMIT);
+        if s.len() > VALUE_LIMIT {
+            return Reading::Refused(Refusal {
+                number: VALUE_TOO_LONG,
+                place: VALUE_LIMIT,
+            });
         }
-        let agreed = octets::word_at(b"HTTP/", s, 0);
+        let agreed = scans::word_at(b"HTTP/", s, 0);
         if agreed < NAME_LEN {
-            return refused(1, agreed);
+            return Reading::Refused(Refusal {
+                number: MALFORMED,
+                place: agreed,
+            });
         }
-        match octets::read_decimal(s, NAME_LEN, NUMBER_LIMIT) {
+        match scans::read_decimal(s, NAME_LEN, NUMBER_LIMIT) {
             Decimal::Number { value, end } => read_minor(s, value, end),
-            Decimal::Above { place, end: _ } => refused(2, place),
-            Decimal::Missing => refused(1, NAME_LEN),
+            Decimal::Above { place, end: _ } => Reading::Refused(Refusal {
+                number: NUMBER_ABOVE_LIMIT,
+                place,
+            }),
+            Decimal::Missing => Reading::Refused(Refusal {
+                number: MALFORMED,
+                place: NAME_LEN,
+            }),
         }
     }
 
@@ -92,14 +112,14 @@ impl Version {
         ensures writes { λ _. ⌜ now (out .exit) ≡ version-output self (now (out .entry)) ⌝ }
     {
         if self.major as u64 > NUMBER_LIMIT {
-            return unwritten(9);
+            return octets::unwritten(OUT_OF_RANGE);
         }
         if self.minor as u64 > NUMBER_LIMIT {
-            return unwritten(9);
+            return octets::unwritten(OUT_OF_RANGE);
         }
         let len = text_len(self);
         if out.len() < len {
-            return unwritten(8);
+            return octets::unwritten(OUTPUT_TOO_SHORT);
         }
         put_text(self, out);
         Written::Length(len)
@@ -111,24 +131,12 @@ impl Version {
     {
         match Version::read(a) {
             Reading::Refused(r) => Compared::FirstRefused(r),
-            Reading::Read(v) => match Version::read(b) {
+            Reading::Read(first) => match Version::read(b) {
                 Reading::Refused(r) => Compared::SecondRefused(r),
-                Reading::Read(w) => Compared::Ordered(v.compare(w)),
+                Reading::Read(second) => Compared::Ordered(first.compare(second)),
             },
         }
     }
-}
-
-fn refused(number: u8, place: usize) -> Reading
-    ensures { λ r. ⌜ r ≡ Reading.Refused (record { number = number; place = place }) ⌝ }
-{
-    Reading::Refused(Refusal { number, place })
-}
-
-fn unwritten(number: u8) -> Written
-    ensures { λ r. ⌜ r ≡ Written.Refused (record { number = number; place = 0 }) ⌝ }
-{
-    Written::Refused(Refusal { number, place: 0 })
 }
 
 fn text_len(v: Version) -> usize
@@ -144,10 +152,10 @@ fn put_text(v: Version, out: &mut [u8])
     requires { ⌜ length (version-text v) ≤ length (now out) ⌝ }
     ensures { λ _. ⌜ now (out .exit) ≡ version-text v ++ drop (length (version-text v)) (now (out .entry)) ⌝ }
 {
-    let a = text::put_bytes(b"HTTP/", out, 0);
-    let b = text::put_decimal(v.major as u64, out, a);
-    let c = text::put_bytes(b".", out, b);
-    text::put_decimal(v.minor as u64, out, c);
+    let name_end = text::put_bytes(b"HTTP/", out, 0);
+    let major_end = text::put_decimal(v.major as u64, out, name_end);
+    let point_end = text::put_bytes(b".", out, major_end);
+    text::put_decimal(v.minor as u64, out, point_end);
 }
 
 // Reads on from the place behind the major number.
@@ -156,17 +164,32 @@ fn read_minor(s: &[u8], major: u64, at: usize) -> Reading
     ensures { λ r. ⌜ verdict r ≡ header rules (now (s .entry)) ⌝ }
 {
     if s.len() <= at {
-        return refused(1, at);
+        return Reading::Refused(Refusal {
+            number: MALFORMED,
+            place: at,
+        });
     }
     if s[at] != b'.' {
-        return refused(1, at);
+        return Reading::Refused(Refusal {
+            number: MALFORMED,
+            place: at,
+        });
     }
-    match octets::read_decimal(s, at + 1, NUMBER_LIMIT) {
-        Decimal::Above { place, end: _ } => refused(2, place),
-        Decimal::Missing => refused(1, at + 1),
+    match scans::read_decimal(s, at + 1, NUMBER_LIMIT) {
+        Decimal::Above { place, end: _ } => Reading::Refused(Refusal {
+            number: NUMBER_ABOVE_LIMIT,
+            place,
+        }),
+        Decimal::Missing => Reading::Refused(Refusal {
+            number: MALFORMED,
+            place: at + 1,
+        }),
         Decimal::Number { value, end } => {
             if end < s.len() {
-                return refused(1, end);
+                return Reading::Refused(Refusal {
+                    number: MALFORMED,
+                    place: end,
+                });
             }
             Reading::Read(Version {
                 major: major as u32,

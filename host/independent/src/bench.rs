@@ -25,7 +25,7 @@ pub fn run(input: &[u8]) -> String {
 }
 
 fn frame(line: &[u8]) -> Option<Vec<u8>> {
-    if line.len() > DIGIT_LIMIT || !line.len().is_multiple_of(2) {
+    if line.len() > DIGIT_LIMIT || line.len() % 2 != 0 {
         return None;
     }
     let digit = |byte: u8| char::from(byte).to_digit(16);

@@ -2,11 +2,10 @@
 
 mod common;
 
-use common::{lend, refusal, RANDOM};
+use common::{lend, raw, refusal, RANDOM};
 use independent::chunked::decode;
 use independent::generate::{any, at_limits, body, every, rooms, short, Kind, Rng};
-use independent::number::BODY_TOO_LARGE;
-use quizotepec::{chunked_decode, raw, Decoded, Refusal};
+use quizotepec::{chunked_decode, Decoded, Refusal};
 
 /// How many bodies are tried at every beginning.
 const CUT: usize = 2_000;
@@ -43,7 +42,7 @@ fn stands(input: &[u8], room: usize, rng: &mut Rng) {
     let last = agree(input, room);
     let decided = match last.0 {
         Decoded::Whole { taken, .. } => taken,
-        Decoded::Refused(r) => r.place + 1,
+        Decoded::Refused(r) => r.place() + 1,
         Decoded::More => usize::MAX,
     };
     for end in 0..=input.len() {
@@ -60,7 +59,7 @@ fn stands(input: &[u8], room: usize, rng: &mut Rng) {
 fn roomier(input: &[u8], rooms: &[usize]) {
     for pair in rooms.windows(2) {
         let less = ours(input, pair[0]);
-        if !matches!(less.0, Decoded::Refused(Refusal { number: BODY_TOO_LARGE, .. })) {
+        if !matches!(less.0, Decoded::Refused(Refusal::BodyTooLarge { .. })) {
             assert_eq!(ours(input, pair[1]), less, "{input:?} in rooms {pair:?}");
         }
     }
@@ -138,12 +137,13 @@ fn fields_without_a_meaning_are_zero() {
         let mut out = vec![0; rng.below(160)];
         // SAFETY: the pointers and the lengths are those of two vectors.
         let b = unsafe { raw::qz_chunked_decode(input.as_ptr(), input.len(), out.as_mut_ptr(), out.len()) };
-        let unused = match b.state {
-            0 => b.number as usize + b.place,
-            1 => b.number as usize + b.place + b.taken + b.length,
-            2 => b.taken + b.length,
+        let raw::QzBody { state, number, place, taken, length } = b;
+        let unused = match state {
+            0 => number as usize + place,
+            1 => number as usize + place + taken + length,
+            2 => taken + length,
             _ => usize::MAX,
         };
-        assert_eq!(unused, 0, "{b:?}");
+        assert_eq!(unused, 0, "{state}: {number} at {place}, {taken} and {length}");
     }
 }

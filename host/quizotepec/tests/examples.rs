@@ -2,7 +2,7 @@
 
 mod common;
 
-use common::lend;
+use common::{at, lend};
 use quizotepec::{
     chunked_decode, chunked_encode, date_read, date_write, delta_read, etag_read, etag_strong_match,
     etag_weak_match, language_equal, language_read, media_charset, media_equal, media_read, products_read,
@@ -15,7 +15,7 @@ const AMPLE: usize = 64;
 const LINE_LIMIT: usize = 1_024;
 
 fn no<T>(number: u8, place: usize) -> Result<T, Refusal> {
-    Err(Refusal { number, place })
+    Err(at(number, place))
 }
 
 #[test]
@@ -24,7 +24,7 @@ fn versions() {
     assert_eq!(version_compare(b"HTTP/2.13", b"HTTP/12.3"), Ok(Ordering::Less));
     assert_eq!(version_compare(b"HTTP/12.3", b"HTTP/2.4"), Ok(Ordering::Greater));
     assert_eq!(version_compare(b"HTTP/01.1", b"http/1.1"), Ok(Ordering::Equal));
-    let second = Refused { which: Which::Second, refusal: Refusal { number: 1, place: 6 } };
+    let second = Refused { which: Which::Second, refusal: Refusal::Malformed { place: 6 } };
     assert_eq!(version_compare(b"HTTP/1.1", b"HTTP/1"), Err(second));
     assert_eq!(version_read(b"HTTP/01.1"), Ok(Version { major: 1, minor: 1 }));
     assert_eq!(version_read(b"HTTP/65536.0"), no(2, 9));
@@ -60,7 +60,7 @@ fn numbers() {
 fn bodies() {
     let decode =
         |input: &[u8], room, data: &[u8]| lend(room, |out| chunked_decode(input, out), |_| data.to_vec());
-    let refused = |number, place| Decoded::Refused(Refusal { number, place });
+    let refused = |number, place| Decoded::Refused(at(number, place));
     assert_eq!(decode(b"0\r\n\r\n", 0, b""), Decoded::Whole { taken: 5, length: 0 });
     assert_eq!(decode(b"1", 0, b""), refused(7, 0));
     assert_eq!(decode(b"", 0, b""), Decoded::More);
@@ -86,10 +86,10 @@ fn tags() {
     assert_eq!(language_read(b"abcdefghi"), no(1, 8));
     assert_eq!(language_equal(b"en-US", b"EN-us"), Ok(true));
     assert_eq!(language_equal(b"en-US", b"en"), Ok(false));
-    let first = Refused { which: Which::First, refusal: Refusal { number: 1, place: 3 } };
+    let first = Refused { which: Which::First, refusal: Refusal::Malformed { place: 3 } };
     assert_eq!(language_equal(b"en-", b"-"), Err(first));
-    assert_eq!(etag_read(b"w/\"xyzzy\""), Ok(EntityTag { weak: true, start: 3, length: 5 }));
-    assert_eq!(etag_read(b"\"\""), Ok(EntityTag { weak: false, start: 1, length: 0 }));
+    assert_eq!(etag_read(b"w/\"xyzzy\""), Ok(EntityTag { weak: true, opaque: span(3, 5) }));
+    assert_eq!(etag_read(b"\"\""), Ok(EntityTag { weak: false, opaque: span(1, 0) }));
     assert_eq!(etag_read(b"W/"), no(1, 2));
     assert_eq!(etag_strong_match(b"\"a\"", b"\"a\""), Ok(true));
     assert_eq!(etag_strong_match(b"W/\"a\"", b"W/\"a\""), Ok(false));
@@ -229,7 +229,7 @@ fn equal_media_types() {
     ] {
         assert_eq!(media_equal(first.as_bytes(), second.as_bytes()), Ok(equal), "{first} {second}");
     }
-    let refused = |which, number, place| Err(Refused { which, refusal: Refusal { number, place } });
+    let refused = |which, number, place| Err(Refused { which, refusal: at(number, place) });
     assert_eq!(media_equal(b"a/b;x=1;x=2", b"a"), refused(Which::First, 11, 9));
     assert_eq!(media_equal(b"a/b", b"a/b;"), refused(Which::Second, 1, 4));
 }
@@ -268,7 +268,7 @@ fn urls() {
     assert_eq!(url_equal(b"http://a/%2F", b"http://a/%2f"), Ok(false));
     assert_eq!(url_equal(b"http://a/%2F", b"http://a//"), Ok(false));
     assert_eq!(url_equal(b"http://a/b", b"http://a/B"), Ok(false));
-    let refused = |which, number, place| Err(Refused { which, refusal: Refusal { number, place } });
+    let refused = |which, number, place| Err(Refused { which, refusal: at(number, place) });
     assert_eq!(url_equal(b"http:", b""), refused(Which::First, 1, 5));
     assert_eq!(url_equal(b"http://a", b"http://a:65536"), refused(Which::Second, 2, 13));
 }

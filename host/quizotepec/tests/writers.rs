@@ -2,12 +2,12 @@
 
 mod common;
 
-use common::{lend, writes, RANDOM};
+use common::{at, lend, writes, RANDOM};
 use independent::date::{EARLIEST, LATEST, LENGTH};
 use independent::generate::{frame, instant, numbers, Rng};
 use independent::number::{ARGUMENT_OUT_OF_RANGE, BODY_TOO_LARGE, OUTPUT_TOO_SHORT};
 use independent::{chunked, date, qvalue, version};
-use quizotepec::{chunked_encode, date_write, qvalue_write, version_write, Refusal, Version};
+use quizotepec::{chunked_encode, date_write, qvalue_write, version_write, Version};
 
 /// The longest version has 16 bytes, the longest qvalue 5.
 const VERSION_ROOM: usize = 20;
@@ -119,7 +119,7 @@ fn longer_bodies() {
 fn the_largest_body() {
     let body = vec![0; chunked::BODY_LIMIT + 1];
     let encode = |body: &[u8], chunk_len| lend(1, |out| chunked_encode(body, chunk_len, out), |_| Vec::new());
-    let refused = |number| Err(Refusal { number, place: 0 });
+    let refused = |number| Err(at(number, 0));
     assert_eq!(encode(&body, 0), refused(ARGUMENT_OUT_OF_RANGE));
     assert_eq!(encode(&body, 1 << 20), refused(BODY_TOO_LARGE));
     assert_eq!(encode(&body[1..], 1 << 20), refused(OUTPUT_TOO_SHORT));

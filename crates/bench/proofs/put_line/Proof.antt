@@ -1,12 +1,12 @@
 -- `bench::put_line` meets its contract. By whether the line is good.
 use mathlib.Core.Path.{sym, _∙_, ap}
-use mathlib.Core.List.{_∷_, []}
+use Rattle.grammar.specs.Text.{bytes}
 use Prim.Native.Nat.{ℕ}
 use native.Mathlib.Omega.{arith}
 use lib.ListN.{length}
 use lib.Seq.{length-take-le}
 use Rattle.chunked.specs.Verdict.{verdict}
-use Rattle.lines.specs.Reading.{spelled, answer}
+use Rattle.lines.specs.Reading.{spelled, hex-answer}
 use Rattle.bench.specs.Saying.{said-answer}
 use Rattle.bench.proofs.Says.{one-put, said-bad, said-good, said-decoded, shows-line}
 use borrow.Author.Needs.{needs}
@@ -25,20 +25,42 @@ slice-aggregate-put-bytes c = search needs
 put-bytes-requires : tie.Need-put-bytes-requires
 put-bytes-requires c κs = search needs
 
-enum-known-h : tie.Need-enum-known-h
-enum-known-h c = search needs
+enum-known-bytes : tie.Need-enum-known-bytes
+enum-known-bytes c = search needs
 
 slice-reshare-prefix-decode : tie.Need-slice-reshare-prefix-decode
-slice-reshare-prefix-decode c = said-good (c .before .before .before .before .before .before .before .before .before .before .before .args .line .now) (c .before .before .before .before .before .from-hex .result) (c .before .h .given .0 .0) (c .before .before .before .before .before .before .before .before .before .before .before .args .frame .now) (c .before .before .before .before .before .from-hex .last .1 .0) (c .before .before .before .before .before .before .before .before .before .before .before .pre .0) (c .before .before .before .before .before .from-hex .ensures .0) (c .before .h .given .1) (c .before .before .before .before .before .from-hex .ensures .1) .0
+slice-reshare-prefix-decode c =
+    let at-bytes = c .before in
+    let at-hex = at-bytes .before .before .before .before in
+    let start = at-hex .before .before .before .before .before .before in
+    said-good (start .args .line .now) (at-hex .from-hex .result) (at-bytes .bytes .given .0 .0) (start .args .frame .now)
+    (at-hex .from-hex .last .1 .0) (start .pre .0) (at-hex .from-hex .ensures .0) (at-bytes .bytes .given .1)
+    (at-hex .from-hex .ensures .1) .0
 
 slice-aggregate-decode : tie.Need-slice-aggregate-decode
-slice-aggregate-decode c = sym (length-take-le (c .before .before .h .given .0 .0) (c .before .before .before .before .before .before .from-hex .last .1 .0) (said-good (c .before .before .before .before .before .before .before .before .before .before .before .before .args .line .now) (c .before .before .before .before .before .before .from-hex .result) (c .before .before .h .given .0 .0) (c .before .before .before .before .before .before .before .before .before .before .before .before .args .frame .now) (c .before .before .before .before .before .before .from-hex .last .1 .0) (c .before .before .before .before .before .before .before .before .before .before .before .before .pre .0) (c .before .before .before .before .before .before .from-hex .ensures .0) (c .before .before .h .given .1) (c .before .before .before .before .before .before .from-hex .ensures .1) .0))
+slice-aggregate-decode c =
+    let at-bytes = c .before .before in
+    let at-hex = at-bytes .before .before .before .before in
+    let start = at-hex .before .before .before .before .before .before in
+    sym (length-take-le (at-bytes .bytes .given .0 .0) (at-hex .from-hex .last .1 .0) (said-good
+    (start .args .line .now) (at-hex .from-hex .result) (at-bytes .bytes .given .0 .0) (start .args .frame .now)
+    (at-hex .from-hex .last .1 .0) (start .pre .0) (at-hex .from-hex .ensures .0) (at-bytes .bytes .given .1)
+    (at-hex .from-hex .ensures .1) .0))
 
 decode-requires : tie.Need-decode-requires
 decode-requires c κs = search needs
 
 put-answer-requires : tie.Need-put-answer-requires
-put-answer-requires c κs = omega (arith, c .before .before .before .before .before .before .before .before .before .before .before .before .before .before .before .before .before .pre .2, ap length (said-decoded (c .before .before .before .before .before .before .before .before .before .before .before .before .before .before .before .before .before .args .line .now) (c .before .before .before .before .before .before .before .before .before .before .before .from-hex .result) (c .before .before .before .before .before .before .before .h .given .0 .0) (c .before .before .before .before .before .before .before .before .before .before .before .before .before .before .before .before .before .args .frame .now) (c .before .before .before .before .before .before .before .before .before .before .before .from-hex .last .1 .0) (c .before .before .before .before .before .before .before .before .before .before .before .before .before .before .before .before .before .pre .0) (c .before .before .before .before .before .before .before .before .before .before .before .from-hex .ensures .0) (c .before .before .before .before .before .before .before .h .given .1) (c .before .before .before .before .before .before .before .before .before .before .before .from-hex .ensures .1) (length (c .before .before .before .before .before .before .before .before .before .before .before .before .before .before .before .before .before .args .room .now)) (verdict (c .before .before .before .decode .result)) (c .before .before .before .before .before .before .before .before .before .before .before .before .before .before .before .before .before .pre .1) (c .before .before .before .decode .ensures .0)))
+put-answer-requires c κs =
+    let at-decode = c .before .before .before in
+    let at-bytes = at-decode .before .before .before .before in
+    let at-hex = at-bytes .before .before .before .before in
+    let start = at-hex .before .before .before .before .before .before in
+    let is = said-decoded (start .args .line .now) (at-hex .from-hex .result) (at-bytes .bytes .given .0 .0) (start .args .frame .now)
+    (at-hex .from-hex .last .1 .0) (start .pre .0) (at-hex .from-hex .ensures .0) (at-bytes .bytes .given .1)
+    (at-hex .from-hex .ensures .1)
+    (length (start .args .room .now)) (verdict (at-decode .decode .result)) (start .pre .1) (at-decode .decode .ensures .0) in
+    omega (arith, start .pre .2, ap length is)
 
 same-length : tie.Need-same-length
 same-length c = search needs
@@ -47,7 +69,19 @@ same-length-2 : tie.Need-same-length-2
 same-length-2 c = search needs
 
 returns : tie.Need-returns
-returns c = shows-line (c .before .before .before .before .before .before .before .before .before .before .before .before .before .before .before .args .line .now) (88 ∷ 10 ∷ []) (c .before .before .before .before .before .before .before .before .before .before .before .before .before .before .before .args .out .now) (c .before .before .put-bytes .last .1 .0) (c .before .before .before .before .before .before .before .before .before .before .before .before .before .before .before .args .at) (c .before .before .put-bytes .result) (sym (said-bad (c .before .before .before .before .before .before .before .before .before .before .before .before .before .before .before .args .line .now) (c .before .before .before .before .before .before .before .before .before .from-hex .result) (c .before .before .before .before .before .before .before .before .before .from-hex .ensures .0 ∙ ap (λ (k : ℕ). answer (spelled (c .before .before .before .before .before .before .before .before .before .before .before .before .before .before .before .args .line .now) k)) (c .before .before .before .before .before .before .before .before .before .before .before .before .before .before .before .pre .0)) (c .before .before .before .before .before .enum-told .given .1))) (one-put (c .before .before .before .before .before .before .before .before .before .before .before .before .before .before .before .args .out .now) (c .before .before .before .before .before .before .before .before .before .before .before .before .before .before .before .args .at) (88 ∷ 10 ∷ []) (c .before .before .put-bytes .last .1 .0) (c .before .before .put-bytes .result) (omega (arith, c .before .before .before .before .before .before .before .before .before .before .before .before .before .before .before .pre .2, ap length (said-bad (c .before .before .before .before .before .before .before .before .before .before .before .before .before .before .before .args .line .now) (c .before .before .before .before .before .before .before .before .before .from-hex .result) (c .before .before .before .before .before .before .before .before .before .from-hex .ensures .0 ∙ ap (λ (k : ℕ). answer (spelled (c .before .before .before .before .before .before .before .before .before .before .before .before .before .before .before .args .line .now) k)) (c .before .before .before .before .before .before .before .before .before .before .before .before .before .before .before .pre .0)) (c .before .before .before .before .before .enum-told .given .1)))) (c .before .before .put-bytes .ensures .0) (c .before .before .put-bytes .ensures .1))
+returns c =
+    let at-put = c .before .before in
+    let at-told = at-put .before .before .before in
+    let at-hex = at-told .before .before .before .before in
+    let start = at-hex .before .before .before .before .before .before in
+    let line = start .args .line .now in
+    let bad = said-bad line (at-hex .from-hex .result)
+    (at-hex .from-hex .ensures .0 ∙ ap (λ (k : ℕ). hex-answer (spelled line k)) (start .pre .0))
+    (at-told .enum-told .given .1) in
+    shows-line line (bytes "X\n") (start .args .out .now) (at-put .put-bytes .last .1 .0) (start .args .at)
+    (at-put .put-bytes .result) (sym bad)
+    (one-put (start .args .out .now) (start .args .at) (bytes "X\n") (at-put .put-bytes .last .1 .0) (at-put .put-bytes .result)
+    (omega (arith, start .pre .2, ap length bad)) (at-put .put-bytes .ensures .0) (at-put .put-bytes .ensures .1))
 
 same-length-3 : tie.Need-same-length-3
 same-length-3 c = search needs
@@ -59,7 +93,18 @@ same-length-5 : tie.Need-same-length-5
 same-length-5 c = search needs
 
 returns-2 : tie.Need-returns-2
-returns-2 c = shows-line (c .before .before .before .before .before .before .before .before .before .before .before .before .before .before .before .before .before .before .before .before .args .line .now) (said-answer (verdict (c .before .before .before .before .before .before .decode .result))) (c .before .before .before .before .before .before .before .before .before .before .before .before .before .before .before .before .before .before .before .before .args .out .now) (c .before .before .put-answer .last .1 .0) (c .before .before .before .before .before .before .before .before .before .before .before .before .before .before .before .before .before .before .before .before .args .at) (c .before .before .put-answer .result) (said-decoded (c .before .before .before .before .before .before .before .before .before .before .before .before .before .before .before .before .before .before .before .before .args .line .now) (c .before .before .before .before .before .before .before .before .before .before .before .before .before .before .from-hex .result) (c .before .before .before .before .before .before .before .before .before .before .h .given .0 .0) (c .before .before .before .before .before .before .before .before .before .before .before .before .before .before .before .before .before .before .before .before .args .frame .now) (c .before .before .before .before .before .before .before .before .before .before .before .before .before .before .from-hex .last .1 .0) (c .before .before .before .before .before .before .before .before .before .before .before .before .before .before .before .before .before .before .before .before .pre .0) (c .before .before .before .before .before .before .before .before .before .before .before .before .before .before .from-hex .ensures .0) (c .before .before .before .before .before .before .before .before .before .before .h .given .1) (c .before .before .before .before .before .before .before .before .before .before .before .before .before .before .from-hex .ensures .1) (length (c .before .before .before .before .before .before .before .before .before .before .before .before .before .before .before .before .before .before .before .before .args .room .now)) (verdict (c .before .before .before .before .before .before .decode .result)) (c .before .before .before .before .before .before .before .before .before .before .before .before .before .before .before .before .before .before .before .before .pre .1) (c .before .before .before .before .before .before .decode .ensures .0)) (c .before .before .put-answer .ensures)
+returns-2 c =
+    let at-put = c .before .before in
+    let at-decode = at-put .before .before .before .before in
+    let at-bytes = at-decode .before .before .before .before in
+    let at-hex = at-bytes .before .before .before .before in
+    let start = at-hex .before .before .before .before .before .before in
+    let is = said-decoded (start .args .line .now) (at-hex .from-hex .result) (at-bytes .bytes .given .0 .0) (start .args .frame .now)
+    (at-hex .from-hex .last .1 .0) (start .pre .0) (at-hex .from-hex .ensures .0) (at-bytes .bytes .given .1)
+    (at-hex .from-hex .ensures .1)
+    (length (start .args .room .now)) (verdict (at-decode .decode .result)) (start .pre .1) (at-decode .decode .ensures .0) in
+    shows-line (start .args .line .now) (said-answer (verdict (at-decode .decode .result))) (start .args .out .now)
+    (at-put .put-answer .last .1 .0) (start .args .at) (at-put .put-answer .result) is (at-put .put-answer .ensures)
 
 pub put-line-spec : {M : Type 1} → statement M
 put-line-spec =
@@ -69,7 +114,7 @@ put-line-spec =
     enum-told
     slice-aggregate-put-bytes
     put-bytes-requires
-    enum-known-h
+    enum-known-bytes
     slice-reshare-prefix-decode
     slice-aggregate-decode
     decode-requires

@@ -30,15 +30,19 @@ same-length c = search needs
 
 returns : tie.Need-returns
 returns c =
-    two-put (c .before .before .before .before .before .before .before .before .before .before .before .before .before .before .before .before .before .before .before .before .before .before .before .before .args .out .now) (c .before .before .before .before .before .before .before .before .before .before .before .before .before .before .before .before .before .before .before .before .before .before .before .before .args .at) (c .before .before .before .before .before .before .before .before .before .before .before .before .before .before .before .before .before .before .before .before .before .before .before .before .args .letter .now) (c .before .before .before .before .before .before .before .before .before .before .before .before .before .before .before .before .before .before .before .before .before .before .before .before .args .a) (c .before .before .before .before .before .before .before .before .before .before .before .before .before .before .before .before .before .before .before .before .before .before .before .before .args .b)
-    (c .before .before .before .before .before .before .before .before .before .before .before .before .before .before .before .before .before .before .before .before .put-bytes .last .1 .0) (c .before .before .before .before .before .before .before .before .before .before .before .before .before .before .before .before .put-decimal .last .1 .0) (c .before .before .before .before .before .before .before .before .before .before .before .put-bytes2 .last .1 .0) (c .before .before .before .before .before .before .before .put-decimal2 .last .1 .0) (c .before .before .put-bytes3 .last .1 .0)
-    (c .before .before .before .before .before .before .before .before .before .before .before .before .before .before .before .before .before .before .before .before .put-bytes .result) (c .before .before .before .before .before .before .before .before .before .before .before .before .before .before .before .before .put-decimal .result) (c .before .before .before .before .before .before .before .before .before .before .before .put-bytes2 .result) (c .before .before .before .before .before .before .before .put-decimal2 .result) (c .before .before .put-bytes3 .result)
-    (c .before .before .before .before .before .before .before .before .before .before .before .before .before .before .before .before .before .before .before .before .before .before .before .before .pre)
-    (c .before .before .before .before .before .before .before .before .before .before .before .before .before .before .before .before .before .before .before .before .put-bytes .ensures .0) (c .before .before .before .before .before .before .before .before .before .before .before .before .before .before .before .before .before .before .before .before .put-bytes .ensures .1)
-    (c .before .before .before .before .before .before .before .before .before .before .before .before .before .before .before .before .put-decimal .ensures .0) (c .before .before .before .before .before .before .before .before .before .before .before .before .before .before .before .before .put-decimal .ensures .1)
-    (c .before .before .before .before .before .before .before .before .before .before .before .put-bytes2 .ensures .0) (c .before .before .before .before .before .before .before .before .before .before .before .put-bytes2 .ensures .1)
-    (c .before .before .before .before .before .before .before .put-decimal2 .ensures .0) (c .before .before .before .before .before .before .before .put-decimal2 .ensures .1)
-    (c .before .before .put-bytes3 .ensures .0) (c .before .before .put-bytes3 .ensures .1)
+    let fifth = c .before .before in
+    let fourth = fifth .before .before .before .before .before in
+    let third = fourth .before .before .before .before in
+    let second = third .before .before .before .before .before in
+    let first = second .before .before .before .before in
+    let start = first .before .before .before .before in
+    two-put (start .args .out .now) (start .args .at) (start .args .begin .now) (start .args .first) (start .args .second)
+    (first .put-bytes .last .1 .0) (second .put-decimal .last .1 .0) (third .put-bytes2 .last .1 .0)
+    (fourth .put-decimal2 .last .1 .0) (fifth .put-bytes3 .last .1 .0)
+    (first .put-bytes .result) (second .put-decimal .result) (third .put-bytes2 .result) (fourth .put-decimal2 .result)
+    (fifth .put-bytes3 .result)
+    (start .pre) (first .put-bytes .ensures) (second .put-decimal .ensures) (third .put-bytes2 .ensures) (fourth .put-decimal2 .ensures)
+    (fifth .put-bytes3 .ensures)
 
 pub put-two-spec : {M : Type 1} → statement M
 put-two-spec =

@@ -1,6 +1,5 @@
 -- `calendar::day_of` meets its contract: division rounded down.
-use borrow.Author.Needs.{needs}
-use mathlib.Core.Path.{sym, ap, _∙_}
+use mathlib.Core.Path.{_∙_}
 use mir.Facts.{toZ-ofZ}
 use Rattle.calendar.proofs.Signed.{divides, quotient-again, rest-again, floor-less, floor-same, floor-fits}
 use Rattle.calendar.proofs.day_of.Statement.{statement}

@@ -2,7 +2,7 @@
 use borrow.Author.Needs.{needs}
 use mathlib.Core.Path.{_≡_, ap, _∙_}
 use mir.Facts.{toZ-ofZ}
-use Rattle.calendar.specs.Instants.{floor-day}
+use Rattle.calendar.specs.helpers.Days.{floor-day}
 use Rattle.calendar.proofs.Signed.{day-cast}
 use Rattle.calendar.proofs.day_since_first.Statement.{statement}
 use Rattle.calendar.proofs.day_since_first.Tie as tie

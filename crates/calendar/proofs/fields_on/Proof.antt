@@ -1,7 +1,7 @@
 -- `calendar::fields_on` meets its contract.
 use native.Mathlib.Omega.{arith}
 use borrow.Author.Needs.{needs}
-use mathlib.Core.Path.{_≡_, sym, ap, _∙_}
+use mathlib.Core.Path.{_≡_, ap, _∙_}
 use mathlib.Core.Bool.{Bool}
 use Prim.Native.Nat.{ℕ, _+_, _-_, _≤_}
 use Rattle.calendar.specs.Gregorian.{leap?, days-of-years, days-of-months}
@@ -26,9 +26,11 @@ rest-found n years dy leap months a b c d = d ∙ rw (c, b, a)
 
 few-months : (c : tie.After-whole-months) → c .whole-months .result ≤ 11
 few-months c =
-    let z = c .before .before .before .before in
-    omega
-    (arith, months-bound (z .args .day) (z .pre), rest-found (z .args .day) _ _ _ _ (c .before .before .before .whole-years .ensures) (c .before .before .days-of-years .ensures) (c .before .is-leap .ensures) (c .whole-months .ensures))
+    let y = c .before .before .before in
+    let z = y .before in
+    let found = rest-found (z .args .day) _ _ _ _ (y .whole-years .ensures) (c .before .before .days-of-years .ensures)
+    (c .before .is-leap .ensures) (c .whole-months .ensures) in
+    omega (arith, months-bound (z .args .day) (z .pre), found)
 
 month-begun : (n years dy : ℕ) (leap : Bool) (months dm : ℕ) → years ≡ years-before n → dy ≡ days-of-years years → leap ≡ leap? (1583 + years)
     → months ≡ months-before leap (n - dy) → dm ≡ days-of-months leap months
@@ -36,47 +38,35 @@ month-begun : (n years dy : ℕ) (leap : Bool) (months dm : ℕ) → years ≡ y
     → dm ≤ n - dy
 month-begun n years dy leap months dm a b c d e h = rw (e, d, c, b, a) h
 
-add-year : tie.Need-add-year
-add-year c = omega (arith, few-years c)
-
-days-of-years-requires : tie.Need-days-of-years-requires
-days-of-years-requires c κs = omega (arith, few-years c)
-
-sub-day-of-year : tie.Need-sub-day-of-year
-sub-day-of-year c = year-begun c
-
-cast-t8 : tie.Need-cast-t8
-cast-t8 c = omega (arith, few-months c)
-
-add-t9 : tie.Need-add-t9
-add-t9 c = omega (arith, few-months c)
-
-days-before-requires : tie.Need-days-before-requires
-days-before-requires c κs = omega (arith, few-months c)
-
 sub-t11 : tie.Need-sub-t11
 sub-t11 c =
-    let z = c .before .before .before .before .before in
-    month-begun (z .args .day) _ _ _ _ _ (c .before .before .before .before .whole-years .ensures) (c .before .before .before .days-of-years .ensures) (c .before .before .is-leap .ensures) (c .before .whole-months .ensures) (c .days-before .ensures) (months-low (z .args .day) (z .pre))
+    let l = c .before .before in
+    let y = l .before .before in
+    let z = y .before in
+    month-begun (z .args .day) _ _ _ _ _ (y .whole-years .ensures) (l .before .days-of-years .ensures) (l .is-leap .ensures)
+    (c .before .whole-months .ensures) (c .days-before .ensures) (months-low (z .args .day) (z .pre))
 
 returns : tie.Need-returns
 returns c =
-    let z = c .before .before .before .before .before in
-    fields-found (z .args .day) (z .args .second) _ _ _ _ _ (c .before .before .before .before .whole-years .ensures) (c .before .before .before .days-of-years .ensures) (c .before .before .is-leap .ensures) (c .before .whole-months .ensures) (c .days-before .ensures)
+    let l = c .before .before in
+    let y = l .before .before in
+    let x = y .before .args in
+    fields-found (x .day) (x .second) _ _ _ _ _ (y .whole-years .ensures) (l .before .days-of-years .ensures) (l .is-leap .ensures)
+    (c .before .whole-months .ensures) (c .days-before .ensures)
 
 pub fields-on-spec : {M : Type 1} → statement M
 fields-on-spec =
     tie.close
     (tie.spec
     (λ c κs. search needs)
-    add-year
-    days-of-years-requires
-    sub-day-of-year
+    (λ c. omega (arith, few-years c))
+    (λ c κs. omega (arith, few-years c))
+    year-begun
     (λ c κs. search needs)
     (λ c κs. search needs)
-    cast-t8
-    add-t9
-    days-before-requires
+    (λ c. omega (arith, few-months c))
+    (λ c. omega (arith, few-months c))
+    (λ c κs. omega (arith, few-months c))
     sub-t11
     (λ c. search needs)
     returns)

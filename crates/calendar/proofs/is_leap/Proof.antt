@@ -1,5 +1,4 @@
 -- `calendar::is_leap` meets its contract.
-use borrow.Author.Needs.{needs}
 use Rattle.calendar.proofs.Counting.{leap-no, leap-yes, leap-hundredth}
 use Rattle.calendar.proofs.is_leap.Statement.{statement}
 use Rattle.calendar.proofs.is_leap.Tie as tie

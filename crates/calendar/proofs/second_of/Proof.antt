@@ -1,5 +1,4 @@
 -- `calendar::second_of` meets its contract.
-use borrow.Author.Needs.{needs}
 use Rattle.calendar.proofs.Signed.{divides, rest-cast-up, rest-cast}
 use Rattle.calendar.proofs.second_of.Statement.{statement}
 use Rattle.calendar.proofs.second_of.Tie as tie

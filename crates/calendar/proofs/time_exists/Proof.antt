@@ -1,5 +1,4 @@
 -- `calendar::time_exists` meets its contract.
-use borrow.Author.Needs.{needs}
 use Rattle.calendar.proofs.Dates.{hour-late, minute-late, second-within}
 use Rattle.calendar.proofs.time_exists.Statement.{statement}
 use Rattle.calendar.proofs.time_exists.Tie as tie

@@ -1,6 +1,5 @@
 -- `calendar::whole_years` meets its contract: the guess is right or one too low.
 use borrow.Author.Needs.{needs}
-use mathlib.Core.Path.{sym, _∙_}
 use Rattle.calendar.proofs.Counting.{years-next, years-same}
 use Rattle.calendar.proofs.whole_years.Statement.{statement}
 use Rattle.calendar.proofs.whole_years.Tie as tie

@@ -27,14 +27,13 @@ same-length c = search needs
 
 returns : tie.Need-returns
 returns c =
-    chunk-put (c .before .before .before .before .before .before .before .before .before .before .before .before .before .before .before .before .before .before .before .before .args .out .now) (c .before .before .before .before .before .before .before .before .before .before .before .before .before .before .before .before .before .before .before .before .args .o) (c .before .before .before .before .before .before .before .before .before .before .before .before .before .before .before .before .before .before .before .before .args .bytes .now)
-    (c .before .before .before .before .before .before .before .before .before .before .before .before .before .before .before .before .put-hex .last .1 .0) (c .before .before .before .before .before .before .before .before .before .before .before .put-bytes .last .1 .0) (c .before .before .before .before .before .before .before .put-bytes2 .last .1 .0) (c .before .before .put-bytes3 .last .1 .0)
-    (c .before .before .before .before .before .before .before .before .before .before .before .before .before .before .before .before .put-hex .result) (c .before .before .before .before .before .before .before .before .before .before .before .put-bytes .result) (c .before .before .before .before .before .before .before .put-bytes2 .result) (c .before .before .put-bytes3 .result)
-    (c .before .before .before .before .before .before .before .before .before .before .before .before .before .before .before .before .before .before .before .before .pre)
-    (c .before .before .before .before .before .before .before .before .before .before .before .before .before .before .before .before .put-hex .ensures .0) (c .before .before .before .before .before .before .before .before .before .before .before .before .before .before .before .before .put-hex .ensures .1)
-    (c .before .before .before .before .before .before .before .before .before .before .before .put-bytes .ensures .0) (c .before .before .before .before .before .before .before .before .before .before .before .put-bytes .ensures .1)
-    (c .before .before .before .before .before .before .before .put-bytes2 .ensures .0) (c .before .before .before .before .before .before .before .put-bytes2 .ensures .1)
-    (c .before .before .put-bytes3 .ensures .0) (c .before .before .put-bytes3 .ensures .1)
+    let p₄ = c .before .before in
+    let p₃ = p₄ .before .before .before .before .before in
+    let p₂ = p₃ .before .before .before .before in
+    let p₁ = p₂ .before .before .before .before .before in
+    let s = p₁ .before .before .before .before in
+    chunk-put (s .args .out .now) (s .args .at) (s .args .part .now) (s .pre)
+    (p₁ .put-hex .ensures) (p₂ .put-bytes .ensures) (p₃ .put-bytes2 .ensures) (p₄ .put-bytes3 .ensures)
 
 pub put-chunk-spec : {M : Type 1} → statement M
 put-chunk-spec =

@@ -4,18 +4,18 @@ use borrow.Author.Needs.{needs}
 use Prim.Native.Nat.{_-_}
 use native.Mathlib.Omega.{arith}
 use lib.ListN.{length}
-use Rattle.chunk_writer.proofs.Puts.{Framed, framed-start, framed-length, framed-fits, framed-on, framed-last, framed-all}
+use Rattle.chunk_writer.proofs.Puts.{Framed, framed-start, framed-length, framed-fits, framed-on, framed-all}
 use Rattle.chunk_writer.proofs.put_frame.Statement.{statement}
 use Rattle.chunk_writer.proofs.put_frame.Tie as tie
 
 abbrev Inv-loop : tie.InvT-loop
-Inv-loop body n out₀ i₀ o₀ out i o = Framed body n out₀ out i o
+Inv-loop body chunk-len out₀ taken₀ at₀ out taken at = Framed body chunk-len out₀ out taken at
 
 abbrev μ-loop : tie.MeasureT-loop
-μ-loop body n out₀ i₀ o₀ out i o = length body - i
+μ-loop body chunk-len out₀ taken₀ at₀ out taken at = length body - taken
 
 loop-holds : tie.Need-loop-holds Inv-loop μ-loop
-loop-holds c = framed-start (c .before .before .args .body .now) (c .before .before .args .n) (c .before .before .args .out .now)
+loop-holds c = framed-start
 
 sub-least : tie.Need-sub-least Inv-loop μ-loop
 sub-least c = omega arith
@@ -36,25 +36,41 @@ part-put-chunk-end : tie.Need-part-put-chunk-end Inv-loop μ-loop
 part-put-chunk-end c = omega (arith, c .least .ensures)
 
 put-chunk-requires : tie.Need-put-chunk-requires Inv-loop μ-loop
-put-chunk-requires c κs = omega (arith, c .before .before .before .before .before .before .before .pre .1, framed-length (c .before .before .before .before .before .before .before .args .body .now) (c .before .before .before .before .before .before .before .args .n) (c .before .before .before .before .before .before .before .args .out .now) (c .before .before .before .before .loop .out) (c .before .before .before .before .loop .i) (c .before .before .before .before .loop .o) (c .before .before .before .before .before .before .before .pre .1) (c .before .before .before .before .loop .inv), framed-fits (c .before .before .before .before .before .before .before .args .body .now) (c .before .before .before .before .before .before .before .args .n) (c .before .before .before .before .before .before .before .args .out .now) (c .before .before .before .before .loop .out) (c .before .before .before .before .loop .i) (c .before .before .before .before .loop .o) (c .before .before .before .before .before .before .before .pre .1) (c .before .before .before .before .loop .inv) (c .before .before .least .result) (c .before .before .before .before .before .before .before .pre .0) (c .before .before .before .loop-test .taken) (c .before .before .least .ensures))
+put-chunk-requires c κs =
+    let l = c .before .before .before in
+    let s = l .before .before .before .before .pre in
+    framed-fits (s .1) (l .before .loop .inv) (s .0) (l .loop-test .taken) (c .before .before .least .ensures)
 
-add-i : tie.Need-add-i Inv-loop μ-loop
-add-i c = omega (arith, c .before .before .before .before .before .least .ensures, c .before .before .before .before .before .before .loop-test .taken)
+add-taken : tie.Need-add-taken Inv-loop μ-loop
+add-taken c =
+    let l = c .before .before .before .before .before in
+    omega (arith, l .least .ensures, l .before .loop-test .taken)
 
 loop-less : tie.Need-loop-less Inv-loop μ-loop
-loop-less c = omega (arith, c .before .before .before .before .before .before .before .before .before .before .pre .0, c .before .before .before .before .before .least .ensures, c .before .before .before .before .before .before .loop-test .taken)
+loop-less c =
+    let l = c .before .before .before .before .before in
+    omega (arith, l .before .before .before .before .before .pre .0, l .least .ensures, l .before .loop-test .taken)
 
 loop-again : tie.Need-loop-again Inv-loop μ-loop
-loop-again c = framed-on (c .before .before .before .before .before .before .before .before .before .before .args .body .now) (c .before .before .before .before .before .before .before .before .before .before .args .n) (c .before .before .before .before .before .before .before .before .before .before .args .out .now) (c .before .before .before .before .before .before .before .loop .out) (c .before .before .before .before .before .before .before .loop .i) (c .before .before .before .before .before .before .before .loop .o) (c .before .before .before .before .before .before .before .before .before .before .pre .1) (c .before .before .before .before .before .before .before .loop .inv) (c .before .before .before .before .before .least .result) (c .before .before .before .before .before .before .before .before .before .before .pre .0) (c .before .before .before .before .before .before .loop-test .taken) (c .before .before .before .before .before .least .ensures) (c .before .before .put-chunk .last .1 .0) (c .before .before .put-chunk .result) (c .before .before .put-chunk .ensures .1) (c .before .before .put-chunk .ensures .0)
+loop-again c =
+    let k = c .before .before .before .before .before in
+    let l = k .before in
+    let s = l .before .before .before .before .pre in
+    let p = c .before .before .put-chunk .ensures in
+    framed-on (s .1) (l .before .loop .inv) (s .0) (l .loop-test .taken) (k .least .ensures) (p .0) (p .1)
 
 put-end-requires : tie.Need-put-end-requires Inv-loop μ-loop
-put-end-requires c κs = omega (arith, c .before .before .before .before .before .pre .1, framed-length (c .before .before .before .before .before .args .body .now) (c .before .before .before .before .before .args .n) (c .before .before .before .before .before .args .out .now) (c .before .before .loop .out) (c .before .before .loop .i) (c .before .before .loop .o) (c .before .before .before .before .before .pre .1) (c .before .before .loop .inv), framed-last (c .before .before .before .before .before .args .body .now) (c .before .before .before .before .before .args .n) (c .before .before .before .before .before .args .out .now) (c .before .before .loop .out) (c .before .before .loop .i) (c .before .before .loop .o) (c .before .before .before .before .before .pre .1) (c .before .before .loop .inv) (c .before .loop-test .left))
+put-end-requires c κs = search needs
 
 same-length : tie.Need-same-length Inv-loop μ-loop
-same-length c = c .before .before .put-end .kept .0 ∙ framed-length (c .before .before .before .before .before .before .before .before .args .body .now) (c .before .before .before .before .before .before .before .before .args .n) (c .before .before .before .before .before .before .before .before .args .out .now) (c .before .before .before .before .before .loop .out) (c .before .before .before .before .before .loop .i) (c .before .before .before .before .before .loop .o) (c .before .before .before .before .before .before .before .before .pre .1) (c .before .before .before .before .before .loop .inv)
+same-length c =
+    let l = c .before .before .before .before .before in
+    c .before .before .put-end .kept .0 ∙ framed-length (l .before .before .before .pre .1) (l .loop .inv)
 
 returns : tie.Need-returns Inv-loop μ-loop
-returns c = framed-all (c .before .before .before .before .before .before .before .before .args .body .now) (c .before .before .before .before .before .before .before .before .args .n) (c .before .before .before .before .before .before .before .before .args .out .now) (c .before .before .before .before .before .loop .out) (c .before .before .before .before .before .loop .i) (c .before .before .before .before .before .loop .o) (c .before .before .before .before .before .before .before .before .pre .1) (c .before .before .before .before .before .loop .inv) (c .before .before .before .before .loop-test .left) (c .before .before .put-end .last .0) (c .before .before .put-end .ensures)
+returns c =
+    let l = c .before .before .before .before in
+    framed-all (l .before .before .before .before .pre .1) (l .before .loop .inv) (l .loop-test .left) (c .before .before .put-end .ensures)
 
 pub put-frame-spec : {M : Type 1} → statement M
 put-frame-spec =
@@ -70,7 +86,7 @@ put-frame-spec =
     part-put-chunk-start
     part-put-chunk-end
     put-chunk-requires
-    add-i
+    add-taken
     loop-less
     loop-again
     put-end-requires

@@ -2,6 +2,7 @@
 use native.Mathlib.Omega.{arith}
 use borrow.Author.Needs.{needs}
 use borrow.Author.Tests.{not-false}
+use mathlib.Core.Path.{sym, _∙_}
 use Rattle.framing.proofs.Cases.{false-true}
 use Rattle.chunked.proofs.Chunks.{same-chunk}
 use Rattle.chunked.proofs.again.Statement.{statement}
@@ -13,8 +14,8 @@ returns c = λ e. false-true e
 returns-2 : tie.Need-returns-2
 returns-2 c = λ e. false-true e
 
-add-n : tie.Need-add-n
-add-n c = omega arith
+add-taken : tie.Need-add-taken
+add-taken c = omega arith
 
 returns-3 : tie.Need-returns-3
 returns-3 c = λ e. false-true e
@@ -23,10 +24,13 @@ returns-4 : tie.Need-returns-4
 returns-4 c = λ e. false-true e
 
 returns-5 : tie.Need-returns-5
-returns-5 c = λ e. (
-  omega arith,
-  same-chunk (c .before .before .before .before .before .before .before .before .before .pre .1) (omega arith) (c .before .before .before .before .crlf-at .ensures (not-false _ (c .before .before .before .if4 .left))) (c .same .ensures e),
-)
+returns-5 c = λ e.
+    let fitting = c .before .before .before .before .before in
+    let start = fitting .before .before .before .before .before .before .before .before .before in (
+      omega arith,
+      same-chunk (start .pre .1) (omega arith) (fitting .before .crlf-at .ensures (not-false _ (fitting .if4 .left)))
+          (sym (c .same .ensures) ∙ e),
+    )
 
 pub again-spec : {M : Type 1} → statement M
 again-spec =
@@ -34,7 +38,7 @@ again-spec =
     (tie.spec
     returns
     returns-2
-    add-n
+    add-taken
     (λ c. search needs)
     returns-3
     (λ c. search needs)

@@ -1,4 +1,3 @@
-use mathlib.Core.List.{[], _∷_}
 use Rattle.chunked.proofs.Runs.{Front, front-on, front-all}
 use mathlib.Core.Path.{_≡_, refl, sym}
 use lib.ListN.{length}
@@ -9,31 +8,31 @@ use Rattle.chunked.proofs.block.Statement.{statement}
 use Rattle.chunked.proofs.block.Tie as tie
 
 abbrev Inv-loop : tie.InvT-loop
-Inv-loop src b₀ k₀ b k = (length b₀ ≡ 16) × (k ≤ 16) × Front b₀ src b k
+Inv-loop src bytes₀ i₀ bytes i = (length bytes₀ ≡ 16) × (i ≤ 16) × Front bytes₀ src bytes i
 
 abbrev μ-loop : tie.MeasureT-loop
-μ-loop src b₀ k₀ b k = 16 - k
+μ-loop src bytes₀ i₀ bytes i = 16 - i
 
 loop-holds : tie.Need-loop-holds Inv-loop μ-loop
 loop-holds c = (refl, omega arith, record { is = refl; within = omega arith })
 
-shared-slice-read-b : tie.Need-shared-slice-read-b Inv-loop μ-loop
-shared-slice-read-b c = search needs
+shared-slice-read-bytes : tie.Need-shared-slice-read-bytes Inv-loop μ-loop
+shared-slice-read-bytes c = search needs
 
-array-write-b : tie.Need-array-write-b Inv-loop μ-loop
-array-write-b c = search needs
+array-write-bytes : tie.Need-array-write-bytes Inv-loop μ-loop
+array-write-bytes c = search needs
 
-add-k : tie.Need-add-k Inv-loop μ-loop
-add-k c = search needs
+add-i : tie.Need-add-i Inv-loop μ-loop
+add-i c = search needs
 
 loop-less : tie.Need-loop-less Inv-loop μ-loop
 loop-less c = search needs
 
 loop-again : tie.Need-loop-again Inv-loop μ-loop
-loop-again c = (refl, omega arith, front-on (0 ∷ 0 ∷ 0 ∷ 0 ∷ 0 ∷ 0 ∷ 0 ∷ 0 ∷ 0 ∷ 0 ∷ 0 ∷ 0 ∷ 0 ∷ 0 ∷ 0 ∷ 0 ∷ []) (c .before .before .before .args .src .now) (c .before .before .loop .b) (c .before .before .loop .k) (sym (c .before .before .before .pre)) (c .before .before .loop .inv .2) (omega arith))
+loop-again c = (refl, omega arith, front-on (sym (c .before .before .before .pre)) (c .before .before .loop .inv .2) (omega arith))
 
 returns : tie.Need-returns Inv-loop μ-loop
-returns c = front-all (0 ∷ 0 ∷ 0 ∷ 0 ∷ 0 ∷ 0 ∷ 0 ∷ 0 ∷ 0 ∷ 0 ∷ 0 ∷ 0 ∷ 0 ∷ 0 ∷ 0 ∷ 0 ∷ []) (c .before .before .args .src .now) (c .before .loop .b) (c .before .loop .k) (sym (c .before .before .pre)) (c .before .loop .inv .2) (omega arith)
+returns c = front-all (sym (c .before .before .pre)) (c .before .loop .inv .2) (omega arith)
 
 pub block-spec : {M : Type 1} → statement M
 block-spec =
@@ -42,9 +41,9 @@ block-spec =
     Inv-loop
     μ-loop
     loop-holds
-    shared-slice-read-b
-    array-write-b
-    add-k
+    shared-slice-read-bytes
+    array-write-bytes
+    add-i
     loop-less
     loop-again
     returns)

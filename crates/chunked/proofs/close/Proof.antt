@@ -10,7 +10,8 @@ returns : tie.Need-returns
 returns c = last-more (at-more (c .before .before .pre) (c .if1 .taken))
 
 returns-2 : tie.Need-returns-2
-returns-2 c = last-refused (c .refuse .ensures) (close-refused (c .before .before .before .before .before .pre) (omega arith) (c .before .if2 .taken))
+returns-2 c = last-refused (c .refuse .ensures) (close-refused (c .before .before .before .before .before .pre) (omega arith)
+    (c .before .if2 .taken))
 
 returns-3 : tie.Need-returns-3
 returns-3 c = last-whole (close-whole (c .before .before .before .before .pre) (omega arith) (c .if2 .left))

@@ -1,25 +1,36 @@
--- `chunked::copy` meets its contract. The loop stands before a chunk line, with the o bytes of data behind it written; p, w and v are the last line.
+-- `chunked::copy` meets its contract. The loop stands before a chunk line, with the data behind it written.
 use native.Mathlib.Omega.{arith}
 use borrow.Author.Needs.{needs}
-use mathlib.Core.Path.{subst, sym, _∙_}
+use mathlib.Core.Path.{_≡_, subst}
 use Prim.Native.Nat.{ℕ, _+_, _-_}
 use lib.ListN.{length}
+use Rattle.chunked.specs.declared.Found.{Found}
 use Rattle.chunked.specs.helpers.Passes.{Copied, Known, ChunkRead}
 use Rattle.chunked.proofs.Passes.{first-fits}
-use Rattle.chunked.proofs.Runs.{part-length}
+use Rattle.chunked.proofs.Runs.{parts-even}
 use Rattle.chunked.proofs.Chunks.{none-known, chunk-known}
-use Rattle.chunked.proofs.Copies.{copied-start, copied-length, copied-on, read-copied-on, copied-all}
+use Rattle.chunked.proofs.Copies.{copied-start, copied-length, copied-fits, copied-on, read-copied-on, copied-all}
 use Rattle.chunked.proofs.copy.Statement.{statement}
 use Rattle.chunked.proofs.copy.Tie as tie
 
 abbrev Inv-loop : tie.InvT-loop
-Inv-loop input out₀ len room i₀ o₀ p₀ w₀ v₀ out i o p w v = Copied input out₀ out i o × Known input p w v
+Inv-loop input out₀ len room at₀ written₀ last₀ out at written last = Copied input out₀ out at written × Known input last
 
 abbrev μ-loop : tie.MeasureT-loop
-μ-loop input out₀ len room i₀ o₀ p₀ w₀ v₀ out i o p w v = length input - i
+μ-loop input out₀ len room at₀ written₀ last₀ out at written last = length input - at
+
+-- what `chunk` found
+found : (c : tie.After-chunk Inv-loop μ-loop) {r : Found} → c .chunk .result ≡ r
+    → ChunkRead (length (c .before .before .before .before .before .before .before .args .out .now))
+    (c .before .before .before .before .before .before .before .args .input .now)
+    (c .before .before .before .before .loop .at) (c .before .before .before .before .loop .written) r
+found c e =
+    let l = c .before .before .before .before in
+    let s = l .before .before .before .args in
+    subst (ChunkRead (length (s .out .now)) (s .input .now) (l .loop .at) (l .loop .written)) e (c .chunk .ensures)
 
 loop-holds : tie.Need-loop-holds Inv-loop μ-loop
-loop-holds c = (copied-start (c .before .before .args .input .now) (c .before .before .args .out .now), none-known)
+loop-holds c = (copied-start, none-known)
 
 sub-again : tie.Need-sub-again Inv-loop μ-loop
 sub-again c = first-fits (c .before .loop .inv .0 .at)
@@ -27,15 +38,16 @@ sub-again c = first-fits (c .before .loop .inv .0 .at)
 again-requires : tie.Need-again-requires Inv-loop μ-loop
 again-requires c κs = (c .before .loop .inv .0 .at .within, c .before .loop .inv .1)
 
-add-j : tie.Need-add-j Inv-loop μ-loop
-add-j c =
-    let r = c .before .again .ensures (c .if1 .taken) in
+-- ## A chunk like the last one
+add-start : tie.Need-add-start Inv-loop μ-loop
+add-start c =
+    let r = c .before .before .again .ensures (c .before .if1 .taken) in
     omega (arith, r .1 .end .inside)
 
 add-copy-run : tie.Need-add-copy-run Inv-loop μ-loop
 add-copy-run c =
-    let r = c .before .again .ensures (c .if1 .taken) in
-    omega (arith, r .0, first-fits (c .before .before .before .loop .inv .0 .at))
+    let t = c .before .before in
+    omega (arith, t .before .again .ensures (t .if1 .taken) .0, first-fits (t .before .before .before .loop .inv .0 .at))
 
 sub-copy-run : tie.Need-sub-copy-run Inv-loop μ-loop
 sub-copy-run c = omega arith
@@ -45,13 +57,13 @@ part-copy-run-start c = omega arith
 
 part-copy-run-end : tie.Need-part-copy-run-end Inv-loop μ-loop
 part-copy-run-end c =
-    let r = c .before .again .ensures (c .if1 .taken) in
-    omega (arith, r .0, first-fits (c .before .before .before .loop .inv .0 .at), copied-length (c .before .before .before .before .before .before .args .input .now) (c .before .before .before .before .before .before .args .out .now) (c .before .before .before .loop .inv .0))
+    let t = c .before .before in
+    omega (arith, copied-fits (t .before .before .before .loop .inv .0) (t .before .again .ensures (t .if1 .taken) .0))
 
 add-copy-run-2 : tie.Need-add-copy-run-2 Inv-loop μ-loop
 add-copy-run-2 c =
-    let r = c .before .before .again .ensures (c .before .if1 .taken) in
-    omega (arith, r .1 .end .inside)
+    let t = c .before .before .before .before in
+    omega (arith, t .before .again .ensures (t .if1 .taken) .1 .end .inside)
 
 sub-copy-run-2 : tie.Need-sub-copy-run-2 Inv-loop μ-loop
 sub-copy-run-2 c = omega arith
@@ -61,57 +73,65 @@ part-copy-run-start-2 c = omega arith
 
 part-copy-run-end-2 : tie.Need-part-copy-run-end-2 Inv-loop μ-loop
 part-copy-run-end-2 c =
-    let r = c .before .before .again .ensures (c .before .if1 .taken) in
-    omega (arith, r .1 .end .inside)
+    let t = c .before .before .before .before in
+    omega (arith, t .before .again .ensures (t .if1 .taken) .1 .end .inside)
 
 copy-run-requires : tie.Need-copy-run-requires Inv-loop μ-loop
 copy-run-requires c κs =
-    let r = c .before .before .before .again .ensures (c .before .before .if1 .taken) in
-    part-length (c .before .before .before .before .before .loop .out) (c .before .before .before .before .before .loop .o) (c .before .before .before .before .before .loop .v) (omega (arith, r .0, first-fits (c .before .before .before .before .before .loop .inv .0 .at), copied-length (c .before .before .before .before .before .before .before .before .args .input .now) (c .before .before .before .before .before .before .before .before .args .out .now) (c .before .before .before .before .before .loop .inv .0)))
-    ∙ sym (part-length (c .before .before .before .before .before .before .before .before .args .input .now) (c .before .before .before .before .before .loop .i + c .before .before .before .before .before .loop .w) (c .before .before .before .before .before .loop .v) (omega (arith, r .1 .end .inside)))
+    let t = c .before .before .before .before .before in
+    let l = t .before .before .before in
+    let r = t .before .again .ensures (t .if1 .taken) in
+    parts-even (l .loop .out) (l .before .before .before .args .input .now) (l .loop .written) (l .loop .at + l .loop .last .length)
+    (l .loop .last .size) (copied-fits (l .loop .inv .0) (r .0)) (omega (arith, r .1 .end .inside))
 
-add-i : tie.Need-add-i Inv-loop μ-loop
-add-i c =
-    let r = c .before .before .before .before .before .before .again .ensures (c .before .before .before .before .before .if1 .taken) in
-    omega (arith, r .1 .end .inside)
+add-at : tie.Need-add-at Inv-loop μ-loop
+add-at c =
+    let t = c .before .before .before .before .before .before .before .before .before in
+    omega (arith, t .before .again .ensures (t .if1 .taken) .1 .end .inside)
 
-add-i-2 : tie.Need-add-i-2 Inv-loop μ-loop
-add-i-2 c =
-    let r = c .before .before .before .before .before .before .again .ensures (c .before .before .before .before .before .if1 .taken) in
-    omega (arith, r .1 .end .inside)
+add-at-2 : tie.Need-add-at-2 Inv-loop μ-loop
+add-at-2 c =
+    let t = c .before .before .before .before .before .before .before .before .before in
+    omega (arith, t .before .again .ensures (t .if1 .taken) .1 .end .inside)
 
-add-o : tie.Need-add-o Inv-loop μ-loop
-add-o c =
-    let r = c .before .before .before .before .before .before .again .ensures (c .before .before .before .before .before .if1 .taken) in
-    omega (arith, r .0, first-fits (c .before .before .before .before .before .before .before .before .loop .inv .0 .at))
+add-written : tie.Need-add-written Inv-loop μ-loop
+add-written c =
+    let t = c .before .before .before .before .before .before .before .before .before .before in
+    omega (arith, t .before .again .ensures (t .if1 .taken) .0, first-fits (t .before .before .before .loop .inv .0 .at))
 
 loop-less : tie.Need-loop-less Inv-loop μ-loop
 loop-less c =
-    let r = c .before .before .before .before .before .before .again .ensures (c .before .before .before .before .before .if1 .taken) in
-    omega (arith, r .1 .end .inside)
+    let t = c .before .before .before .before .before .before .before .before .before .before in
+    omega (arith, t .before .again .ensures (t .if1 .taken) .1 .end .inside)
 
 loop-again : tie.Need-loop-again Inv-loop μ-loop
 loop-again c =
-    let r = c .before .before .before .before .before .before .again .ensures (c .before .before .before .before .before .if1 .taken) in (
-      copied-on (c .before .before .before .before .before .before .before .before .before .before .before .args .input .now) (c .before .before .before .before .before .before .before .before .before .before .before .args .out .now) (λ (k : ℕ). omega (arith, c .before .before .before .before .before .before .before .before .before .before .shared-slice-known .given k)) _ (c .before .before .before .before .before .before .before .before .loop .inv .0) (r .1) (omega (arith, r .0, first-fits (c .before .before .before .before .before .before .before .before .loop .inv .0 .at))) (c .before .before .copy-run .ensures),
-      c .before .before .before .before .before .before .before .before .loop .inv .1,
+    let t = c .before .before .before .before .before .before .before .before .before .before in
+    let l = t .before .before .before in
+    let r = t .before .again .ensures (t .if1 .taken) in (
+      copied-on (λ (k : ℕ). omega (arith, l .before .before .shared-slice-known .given k)) _ (l .loop .inv .0) (r .1)
+          (omega (arith, r .0, first-fits (l .loop .inv .0 .at))) (c .before .before .before .before .copy-run .ensures),
+      l .loop .inv .1,
     )
 
+-- ## Another chunk
 chunk-requires : tie.Need-chunk-requires Inv-loop μ-loop
 chunk-requires c κs = c .before .before .before .loop .inv .0 .at
 
 same-length : tie.Need-same-length Inv-loop μ-loop
-same-length c = copied-length (c .before .before .before .before .before .before .before .before .before .args .input .now) (c .before .before .before .before .before .before .before .before .before .args .out .now) (c .before .before .before .before .before .before .loop .inv .0)
+same-length c = copied-length (c .before .before .before .before .before .before .loop .inv .0)
 
 returns : tie.Need-returns Inv-loop μ-loop
 returns c =
-    let r = subst (ChunkRead (length (c .before .before .before .before .before .before .before .before .before .args .out .now)) (c .before .before .before .before .before .before .before .before .before .args .input .now) (c .before .before .before .before .before .before .loop .i) (c .before .before .before .before .before .before .loop .o)) (c .enum-told .given .1) (c .before .before .chunk .ensures) in
-    absurd (omega (arith, r .total (c .before .before .before .before .before .before .before .before .before .pre .0) (c .before .before .before .before .before .before .before .before .before .args .len) (c .before .before .before .before .before .before .before .before .before .pre .1), c .before .before .before .before .before .loop-test .taken))
+    let i = c .before .before .before .before .before in
+    let s = i .before .before .before .before in
+    let r = found (c .before .before) (c .enum-told .given .1) in
+    absurd (omega (arith, r .total (s .pre .0) (s .args .len) (s .pre .1), i .loop-test .taken))
 
 add-copy-run-3 : tie.Need-add-copy-run-3 Inv-loop μ-loop
 add-copy-run-3 c =
-    let r = subst (ChunkRead (length (c .before .before .before .before .before .before .before .before .before .before .args .out .now)) (c .before .before .before .before .before .before .before .before .before .before .args .input .now) (c .before .before .before .before .before .before .before .loop .i) (c .before .before .before .before .before .before .before .loop .o)) (c .before .size .given .1) (c .before .before .before .chunk .ensures) in
-    omega (arith, r .1)
+    let z = c .before in
+    omega (arith, found (z .before .before) (z .size .given .1) .1)
 
 sub-copy-run-3 : tie.Need-sub-copy-run-3 Inv-loop μ-loop
 sub-copy-run-3 c = omega arith
@@ -121,12 +141,14 @@ part-copy-run-start-3 c = omega arith
 
 part-copy-run-end-3 : tie.Need-part-copy-run-end-3 Inv-loop μ-loop
 part-copy-run-end-3 c =
-    let r = subst (ChunkRead (length (c .before .before .before .before .before .before .before .before .before .before .args .out .now)) (c .before .before .before .before .before .before .before .before .before .before .args .input .now) (c .before .before .before .before .before .before .before .loop .i) (c .before .before .before .before .before .before .before .loop .o)) (c .before .size .given .1) (c .before .before .before .chunk .ensures) in
-    omega (arith, r .1, copied-length (c .before .before .before .before .before .before .before .before .before .before .args .input .now) (c .before .before .before .before .before .before .before .before .before .before .args .out .now) (c .before .before .before .before .before .before .before .loop .inv .0))
+    let z = c .before in
+    let l = z .before .before .before .before .before .before in
+    omega (arith, found (z .before .before) (z .size .given .1) .1, copied-length (l .loop .inv .0))
 
 add-copy-run-4 : tie.Need-add-copy-run-4 Inv-loop μ-loop
 add-copy-run-4 c =
-    let r = subst (ChunkRead (length (c .before .before .before .before .before .before .before .before .before .before .before .args .out .now)) (c .before .before .before .before .before .before .before .before .before .before .before .args .input .now) (c .before .before .before .before .before .before .before .before .loop .i) (c .before .before .before .before .before .before .before .before .loop .o)) (c .before .before .size .given .1) (c .before .before .before .before .chunk .ensures) in
+    let z = c .before .before in
+    let r = found (z .before .before) (z .size .given .1) in
     omega (arith, r .0, r .2 .end .inside)
 
 sub-copy-run-4 : tie.Need-sub-copy-run-4 Inv-loop μ-loop
@@ -137,50 +159,61 @@ part-copy-run-start-4 c = omega arith
 
 part-copy-run-end-4 : tie.Need-part-copy-run-end-4 Inv-loop μ-loop
 part-copy-run-end-4 c =
-    let r = subst (ChunkRead (length (c .before .before .before .before .before .before .before .before .before .before .before .args .out .now)) (c .before .before .before .before .before .before .before .before .before .before .before .args .input .now) (c .before .before .before .before .before .before .before .before .loop .i) (c .before .before .before .before .before .before .before .before .loop .o)) (c .before .before .size .given .1) (c .before .before .before .before .chunk .ensures) in
+    let z = c .before .before in
+    let r = found (z .before .before) (z .size .given .1) in
     omega (arith, r .0, r .2 .end .inside)
 
 copy-run-requires-2 : tie.Need-copy-run-requires-2 Inv-loop μ-loop
 copy-run-requires-2 c κs =
-    let r = subst (ChunkRead (length (c .before .before .before .before .before .before .before .before .before .before .before .before .args .out .now)) (c .before .before .before .before .before .before .before .before .before .before .before .before .args .input .now) (c .before .before .before .before .before .before .before .before .before .loop .i) (c .before .before .before .before .before .before .before .before .before .loop .o)) (c .before .before .before .size .given .1) (c .before .before .before .before .before .chunk .ensures) in
-    part-length (c .before .before .before .before .before .before .before .before .before .loop .out) (c .before .before .before .before .before .before .before .before .before .loop .o) (c .before .before .before .size .given .0 .0) (omega (arith, r .1, copied-length (c .before .before .before .before .before .before .before .before .before .before .before .before .args .input .now) (c .before .before .before .before .before .before .before .before .before .before .before .before .args .out .now) (c .before .before .before .before .before .before .before .before .before .loop .inv .0)))
-    ∙ sym (part-length (c .before .before .before .before .before .before .before .before .before .before .before .before .args .input .now) (c .before .before .before .size .given .0 .1 .0) (c .before .before .before .size .given .0 .0) (omega (arith, r .0, r .2 .end .inside)))
+    let z = c .before .before .before in
+    let l = z .before .before .before .before .before .before in
+    let r = found (z .before .before) (z .size .given .1) in
+    parts-even (l .loop .out) (l .before .before .before .args .input .now) (l .loop .written) (z .size .given .0 .1 .0)
+    (z .size .given .0 .0) (omega (arith, r .1, copied-length (l .loop .inv .0))) (omega (arith, r .0, r .2 .end .inside))
 
-sub-w : tie.Need-sub-w Inv-loop μ-loop
-sub-w c = (subst (ChunkRead (length (c .before .before .before .before .before .before .before .before .before .before .before .before .before .before .before .args .out .now)) (c .before .before .before .before .before .before .before .before .before .before .before .before .before .before .before .args .input .now) (c .before .before .before .before .before .before .before .before .before .before .before .before .loop .i) (c .before .before .before .before .before .before .before .before .before .before .before .before .loop .o)) (c .before .before .before .before .before .before .size .given .1) (c .before .before .before .before .before .before .before .before .chunk .ensures)) .0
+sub-length : tie.Need-sub-length Inv-loop μ-loop
+sub-length c =
+    let z = c .before .before .before .before .before .before in
+    found (z .before .before) (z .size .given .1) .0
 
-add-i-3 : tie.Need-add-i-3 Inv-loop μ-loop
-add-i-3 c =
-    let r = subst (ChunkRead (length (c .before .before .before .before .before .before .before .before .before .before .before .before .before .before .before .args .out .now)) (c .before .before .before .before .before .before .before .before .before .before .before .before .before .before .before .args .input .now) (c .before .before .before .before .before .before .before .before .before .before .before .before .loop .i) (c .before .before .before .before .before .before .before .before .before .before .before .before .loop .o)) (c .before .before .before .before .before .before .size .given .1) (c .before .before .before .before .before .before .before .before .chunk .ensures) in
+add-at-3 : tie.Need-add-at-3 Inv-loop μ-loop
+add-at-3 c =
+    let z = c .before .before .before .before .before .before in
+    let r = found (z .before .before) (z .size .given .1) in
     omega (arith, r .0, r .2 .end .inside)
 
-add-i-4 : tie.Need-add-i-4 Inv-loop μ-loop
-add-i-4 c =
-    let r = subst (ChunkRead (length (c .before .before .before .before .before .before .before .before .before .before .before .before .before .before .before .args .out .now)) (c .before .before .before .before .before .before .before .before .before .before .before .before .before .before .before .args .input .now) (c .before .before .before .before .before .before .before .before .before .before .before .before .loop .i) (c .before .before .before .before .before .before .before .before .before .before .before .before .loop .o)) (c .before .before .before .before .before .before .size .given .1) (c .before .before .before .before .before .before .before .before .chunk .ensures) in
+add-at-4 : tie.Need-add-at-4 Inv-loop μ-loop
+add-at-4 c =
+    let z = c .before .before .before .before .before .before in
+    let r = found (z .before .before) (z .size .given .1) in
     omega (arith, r .0, r .2 .end .inside)
 
-add-o-2 : tie.Need-add-o-2 Inv-loop μ-loop
-add-o-2 c =
-    let r = subst (ChunkRead (length (c .before .before .before .before .before .before .before .before .before .before .before .before .before .before .before .args .out .now)) (c .before .before .before .before .before .before .before .before .before .before .before .before .before .before .before .args .input .now) (c .before .before .before .before .before .before .before .before .before .before .before .before .loop .i) (c .before .before .before .before .before .before .before .before .before .before .before .before .loop .o)) (c .before .before .before .before .before .before .size .given .1) (c .before .before .before .before .before .before .before .before .chunk .ensures) in
-    omega (arith, r .1)
+add-written-2 : tie.Need-add-written-2 Inv-loop μ-loop
+add-written-2 c =
+    let z = c .before .before .before .before .before .before in
+    omega (arith, found (z .before .before) (z .size .given .1) .1)
 
 loop-less-2 : tie.Need-loop-less-2 Inv-loop μ-loop
 loop-less-2 c =
-    let r = subst (ChunkRead (length (c .before .before .before .before .before .before .before .before .before .before .before .before .before .before .before .args .out .now)) (c .before .before .before .before .before .before .before .before .before .before .before .before .before .before .before .args .input .now) (c .before .before .before .before .before .before .before .before .before .before .before .before .loop .i) (c .before .before .before .before .before .before .before .before .before .before .before .before .loop .o)) (c .before .before .before .before .before .before .size .given .1) (c .before .before .before .before .before .before .before .before .chunk .ensures) in
+    let z = c .before .before .before .before .before .before in
+    let r = found (z .before .before) (z .size .given .1) in
     omega (arith, r .0, r .2 .end .inside)
 
 loop-again-2 : tie.Need-loop-again-2 Inv-loop μ-loop
 loop-again-2 c =
-    let r = subst (ChunkRead (length (c .before .before .before .before .before .before .before .before .before .before .before .before .before .before .before .args .out .now)) (c .before .before .before .before .before .before .before .before .before .before .before .before .before .before .before .args .input .now) (c .before .before .before .before .before .before .before .before .before .before .before .before .loop .i) (c .before .before .before .before .before .before .before .before .before .before .before .before .loop .o)) (c .before .before .before .before .before .before .size .given .1) (c .before .before .before .before .before .before .before .before .chunk .ensures) in (
-      read-copied-on (c .before .before .before .before .before .before .before .before .before .before .before .before .before .before .before .args .input .now) (c .before .before .before .before .before .before .before .before .before .before .before .before .before .before .before .args .out .now) (λ (k : ℕ). omega (arith, c .before .before .before .before .before .before .before .before .before .before .before .before .before .before .shared-slice-known .given k)) _ (c .before .before .before .before .before .before .before .before .before .before .before .before .loop .inv .0) (r .0) (r .1) (r .2) (c .before .before .copy-run2 .ensures),
+    let z = c .before .before .before .before .before .before in
+    let l = z .before .before .before .before .before .before in
+    let r = found (z .before .before) (z .size .given .1) in (
+      read-copied-on (λ (k : ℕ). omega (arith, l .before .before .shared-slice-known .given k)) _ (l .loop .inv .0) (r .0) (r .1) (r .2)
+          (c .before .before .copy-run2 .ensures),
       chunk-known (r .2),
     )
 
 same-length-2 : tie.Need-same-length-2 Inv-loop μ-loop
-same-length-2 c = copied-length (c .before .before .before .before .args .input .now) (c .before .before .before .before .args .out .now) (c .before .loop .inv .0)
+same-length-2 c = copied-length (c .before .loop .inv .0)
 
 returns-2 : tie.Need-returns-2 Inv-loop μ-loop
-returns-2 c = copied-all (c .before .before .before .before .args .input .now) (c .before .before .before .before .args .out .now) (c .before .before .before .before .pre .1) (c .before .loop .inv .0) (c .loop-test .left)
+returns-2 c = copied-all (c .before .before .before .before .pre .1) (c .before .loop .inv .0) (c .loop-test .left)
 
 pub copy-spec : {M : Type 1} → statement M
 copy-spec =
@@ -191,7 +224,7 @@ copy-spec =
     loop-holds
     sub-again
     again-requires
-    add-j
+    add-start
     add-copy-run
     sub-copy-run
     part-copy-run-start
@@ -201,9 +234,9 @@ copy-spec =
     part-copy-run-start-2
     part-copy-run-end-2
     copy-run-requires
-    add-i
-    add-i-2
-    add-o
+    add-at
+    add-at-2
+    add-written
     loop-less
     loop-again
     chunk-requires
@@ -220,10 +253,10 @@ copy-spec =
     part-copy-run-start-4
     part-copy-run-end-4
     copy-run-requires-2
-    sub-w
-    add-i-3
-    add-i-4
-    add-o-2
+    sub-length
+    add-at-3
+    add-at-4
+    add-written-2
     loop-less-2
     loop-again-2
     same-length-2

@@ -4,8 +4,8 @@ use borrow.Author.Needs.{needs}
 use Rattle.chunked.proofs.copy_block.Statement.{statement}
 use Rattle.chunked.proofs.copy_block.Tie as tie
 
-add-e : tie.Need-add-e
-add-e c = search needs
+add-end : tie.Need-add-end
+add-end c = search needs
 
 sub-put-block : tie.Need-sub-put-block
 sub-put-block c = search needs
@@ -35,13 +35,16 @@ same-length : tie.Need-same-length
 same-length c = search needs
 
 returns : tie.Need-returns
-returns c = block-at (c .before .before .before .before .before .before .before .before .args .src .now) (c .before .before .before .before .before .before .before .before .args .dst .now) (c .before .before .put-block .last .0) (c .before .before .before .before .before .before .before .before .args .k) (c .before .before .put-block .ensures ∙ c .before .before .before .block .ensures)
+returns c =
+    let s = c .before .before .before .before .before .before .before .before .args in
+    let p = c .before .before in
+    block-at (s .src .now) (s .dst .now) (p .put-block .last .0) (s .at) (p .put-block .ensures ∙ p .before .block .ensures)
 
 pub copy-block-spec : {M : Type 1} → statement M
 copy-block-spec =
     tie.close
     (tie.spec
-    add-e
+    add-end
     sub-put-block
     part-put-block-start
     part-put-block-end

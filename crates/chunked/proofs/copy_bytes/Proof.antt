@@ -7,10 +7,10 @@ use Rattle.chunked.proofs.copy_bytes.Statement.{statement}
 use Rattle.chunked.proofs.copy_bytes.Tie as tie
 
 abbrev Inv-loop : tie.InvT-loop
-Inv-loop dst₀ src k₀ dst k = Front dst₀ src dst k
+Inv-loop dst₀ src i₀ dst i = Front dst₀ src dst i
 
 abbrev μ-loop : tie.MeasureT-loop
-μ-loop dst₀ src k₀ dst k = length src - k
+μ-loop dst₀ src i₀ dst i = length src - i
 
 loop-holds : tie.Need-loop-holds Inv-loop μ-loop
 loop-holds c = search needs
@@ -19,22 +19,22 @@ shared-slice-read-dst : tie.Need-shared-slice-read-dst Inv-loop μ-loop
 shared-slice-read-dst c = search needs
 
 slice-write-dst : tie.Need-slice-write-dst Inv-loop μ-loop
-slice-write-dst c = omega (arith, front-length (c .before .before .before .args .dst .now) (c .before .before .before .args .src .now) (c .before .before .loop .dst) (c .before .before .loop .k) (c .before .before .before .pre) (c .before .before .loop .inv))
+slice-write-dst c = omega (arith, front-length (c .before .before .before .pre) (c .before .before .loop .inv))
 
-add-k : tie.Need-add-k Inv-loop μ-loop
-add-k c = search needs
+add-i : tie.Need-add-i Inv-loop μ-loop
+add-i c = search needs
 
 loop-less : tie.Need-loop-less Inv-loop μ-loop
 loop-less c = search needs
 
 loop-again : tie.Need-loop-again Inv-loop μ-loop
-loop-again c = front-on (c .before .before .before .args .dst .now) (c .before .before .before .args .src .now) (c .before .before .loop .dst) (c .before .before .loop .k) (c .before .before .before .pre) (c .before .before .loop .inv) (c .before .loop-test .taken)
+loop-again c = front-on (c .before .before .before .pre) (c .before .before .loop .inv) (c .before .loop-test .taken)
 
 same-length : tie.Need-same-length Inv-loop μ-loop
-same-length c = front-length (c .before .before .args .dst .now) (c .before .before .args .src .now) (c .before .loop .dst) (c .before .loop .k) (c .before .before .pre) (c .before .loop .inv)
+same-length c = front-length (c .before .before .pre) (c .before .loop .inv)
 
 returns : tie.Need-returns Inv-loop μ-loop
-returns c = front-all (c .before .before .args .dst .now) (c .before .before .args .src .now) (c .before .loop .dst) (c .before .loop .k) (c .before .before .pre) (c .before .loop .inv) (c .loop-test .left)
+returns c = front-all (c .before .before .pre) (c .before .loop .inv) (c .loop-test .left)
 
 pub copy-bytes-spec : {M : Type 1} → statement M
 copy-bytes-spec =
@@ -45,7 +45,7 @@ copy-bytes-spec =
     loop-holds
     shared-slice-read-dst
     slice-write-dst
-    add-k
+    add-i
     loop-less
     loop-again
     same-length

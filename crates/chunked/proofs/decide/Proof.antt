@@ -1,9 +1,10 @@
--- `chunked::decide` meets its contract. The loop stands before a chunk line, with t bytes of data behind it; p, w and v are the last line.
+-- `chunked::decide` meets its contract. The loop stands before a chunk line, with as much data behind it as `total` says.
 use native.Mathlib.Omega.{arith}
 use borrow.Author.Needs.{needs}
-use mathlib.Core.Path.{subst}
+use mathlib.Core.Path.{_≡_, subst}
 use Prim.Native.Nat.{ℕ, _-_}
 use lib.ListN.{length}
+use Rattle.chunked.specs.declared.Found.{Found}
 use Rattle.framing.specs.declared.LinePos.the-variants.{First}
 use Rattle.framing.specs.declared.State.the-variants.{Line}
 use Rattle.chunked.specs.helpers.Passes.{At, Known, ChunkRead}
@@ -13,10 +14,19 @@ use Rattle.chunked.proofs.decide.Statement.{statement}
 use Rattle.chunked.proofs.decide.Tie as tie
 
 abbrev Inv-loop : tie.InvT-loop
-Inv-loop input room i₀ t₀ p₀ w₀ v₀ i t p w v = At room input (Line First 0 t) i × Known input p w v
+Inv-loop input room at₀ total₀ last₀ at total last = At room input (Line First 0 total) at × Known input last
 
 abbrev μ-loop : tie.MeasureT-loop
-μ-loop input room i₀ t₀ p₀ w₀ v₀ i t p w v = length input - i
+μ-loop input room at₀ total₀ last₀ at total last = length input - at
+
+-- what `chunk` found
+found : (c : tie.After-chunk Inv-loop μ-loop) {r : Found} → c .chunk .result ≡ r
+    → ChunkRead (c .before .before .before .before .before .args .room) (c .before .before .before .before .before .args .input .now)
+    (c .before .before .before .loop .at) (c .before .before .before .loop .total) r
+found c e =
+    let l = c .before .before .before in
+    let s = l .before .before .args in
+    subst (ChunkRead (s .room) (s .input .now) (l .loop .at) (l .loop .total)) e (c .chunk .ensures)
 
 loop-holds : tie.Need-loop-holds Inv-loop μ-loop
 loop-holds c = (at-start, none-known)
@@ -27,69 +37,77 @@ sub-again c = first-fits (c .loop .inv .0)
 again-requires : tie.Need-again-requires Inv-loop μ-loop
 again-requires c κs = (c .loop .inv .0 .within, c .loop .inv .1)
 
-add-i : tie.Need-add-i Inv-loop μ-loop
-add-i c =
-    let r = c .before .again .ensures (c .if1 .taken) in
+add-at : tie.Need-add-at Inv-loop μ-loop
+add-at c =
+    let r = c .before .before .again .ensures (c .before .if1 .taken) in
     omega (arith, r .1 .end .inside)
 
-add-i-2 : tie.Need-add-i-2 Inv-loop μ-loop
-add-i-2 c =
-    let r = c .before .again .ensures (c .if1 .taken) in
+add-at-2 : tie.Need-add-at-2 Inv-loop μ-loop
+add-at-2 c =
+    let r = c .before .before .before .again .ensures (c .before .before .if1 .taken) in
     omega (arith, r .1 .end .inside)
 
-add-i-3 : tie.Need-add-i-3 Inv-loop μ-loop
-add-i-3 c =
-    let r = c .before .again .ensures (c .if1 .taken) in
+add-at-3 : tie.Need-add-at-3 Inv-loop μ-loop
+add-at-3 c =
+    let r = c .before .before .before .again .ensures (c .before .before .if1 .taken) in
     omega (arith, r .1 .end .inside)
 
-add-t : tie.Need-add-t Inv-loop μ-loop
-add-t c =
-    let r = c .before .again .ensures (c .if1 .taken) in
-    omega (arith, first-fits (c .before .before .loop .inv .0), r .0)
+add-total : tie.Need-add-total Inv-loop μ-loop
+add-total c =
+    let a = c .before .before .before .before in
+    omega (arith, first-fits (a .before .loop .inv .0), a .again .ensures (c .before .before .before .if1 .taken) .0)
 
 loop-less : tie.Need-loop-less Inv-loop μ-loop
 loop-less c =
-    let r = c .before .again .ensures (c .if1 .taken) in
+    let r = c .before .before .before .before .again .ensures (c .before .before .before .if1 .taken) in
     omega (arith, r .1 .end .inside)
 
 loop-again : tie.Need-loop-again Inv-loop μ-loop
 loop-again c =
-    let r = c .before .again .ensures (c .if1 .taken) in
-    (chunk-on (λ (k : ℕ). omega (arith, c .before .before .before .shared-slice-known .given k)) (c .before .before .loop .inv .0) (r .1) (omega (arith, first-fits (c .before .before .loop .inv .0), r .0)), c .before .before .loop .inv .1)
+    let a = c .before .before .before .before in
+    let l = a .before in
+    let r = a .again .ensures (c .before .before .before .if1 .taken) in (
+      chunk-on (λ (k : ℕ). omega (arith, l .before .shared-slice-known .given k)) (l .loop .inv .0) (r .1)
+          (omega (arith, first-fits (l .loop .inv .0), r .0)),
+      l .loop .inv .1,
+    )
 
 chunk-requires : tie.Need-chunk-requires Inv-loop μ-loop
 chunk-requires c κs = c .before .before .loop .inv .0
 
 returns : tie.Need-returns Inv-loop μ-loop
-returns c = (subst (ChunkRead (c .before .before .before .before .before .before .before .before .args .room) (c .before .before .before .before .before .before .before .before .args .input .now) (c .before .before .before .before .before .before .loop .i) (c .before .before .before .before .before .before .loop .t)) (c .before .a .given .1) (c .before .before .before .chunk .ensures)) .is
+returns c = found (c .before .before .before) (c .before .answer .given .1) .is
 
-sub-w : tie.Need-sub-w Inv-loop μ-loop
-sub-w c = (subst (ChunkRead (c .before .before .before .before .before .before .before .before .args .room) (c .before .before .before .before .before .before .before .before .args .input .now) (c .before .before .before .before .before .before .loop .i) (c .before .before .before .before .before .before .loop .t)) (c .before .size .given .1) (c .before .before .before .chunk .ensures)) .0
+sub-length : tie.Need-sub-length Inv-loop μ-loop
+sub-length c = found (c .before .before .before) (c .before .size .given .1) .0
 
-add-i-4 : tie.Need-add-i-4 Inv-loop μ-loop
-add-i-4 c =
-    let r = subst (ChunkRead (c .before .before .before .before .before .before .before .before .args .room) (c .before .before .before .before .before .before .before .before .args .input .now) (c .before .before .before .before .before .before .loop .i) (c .before .before .before .before .before .before .loop .t)) (c .before .size .given .1) (c .before .before .before .chunk .ensures) in
+add-at-4 : tie.Need-add-at-4 Inv-loop μ-loop
+add-at-4 c =
+    let r = found (c .before .before .before) (c .before .size .given .1) in
     omega (arith, r .0, r .2 .end .inside)
 
-add-i-5 : tie.Need-add-i-5 Inv-loop μ-loop
-add-i-5 c =
-    let r = subst (ChunkRead (c .before .before .before .before .before .before .before .before .args .room) (c .before .before .before .before .before .before .before .before .args .input .now) (c .before .before .before .before .before .before .loop .i) (c .before .before .before .before .before .before .loop .t)) (c .before .size .given .1) (c .before .before .before .chunk .ensures) in
+add-at-5 : tie.Need-add-at-5 Inv-loop μ-loop
+add-at-5 c =
+    let r = found (c .before .before .before) (c .before .size .given .1) in
     omega (arith, r .0, r .2 .end .inside)
 
-add-t-2 : tie.Need-add-t-2 Inv-loop μ-loop
-add-t-2 c =
-    let r = subst (ChunkRead (c .before .before .before .before .before .before .before .before .args .room) (c .before .before .before .before .before .before .before .before .args .input .now) (c .before .before .before .before .before .before .loop .i) (c .before .before .before .before .before .before .loop .t)) (c .before .size .given .1) (c .before .before .before .chunk .ensures) in
+add-total-2 : tie.Need-add-total-2 Inv-loop μ-loop
+add-total-2 c =
+    let r = found (c .before .before .before) (c .before .size .given .1) in
     omega (arith, r .1)
 
 loop-less-2 : tie.Need-loop-less-2 Inv-loop μ-loop
 loop-less-2 c =
-    let r = subst (ChunkRead (c .before .before .before .before .before .before .before .before .args .room) (c .before .before .before .before .before .before .before .before .args .input .now) (c .before .before .before .before .before .before .loop .i) (c .before .before .before .before .before .before .loop .t)) (c .before .size .given .1) (c .before .before .before .chunk .ensures) in
+    let r = found (c .before .before .before) (c .before .size .given .1) in
     omega (arith, r .0, r .2 .end .inside)
 
 loop-again-2 : tie.Need-loop-again-2 Inv-loop μ-loop
 loop-again-2 c =
-    let r = subst (ChunkRead (c .before .before .before .before .before .before .before .before .args .room) (c .before .before .before .before .before .before .before .before .args .input .now) (c .before .before .before .before .before .before .loop .i) (c .before .before .before .before .before .before .loop .t)) (c .before .size .given .1) (c .before .before .before .chunk .ensures) in
-    (read-chunk-on (λ (k : ℕ). omega (arith, c .before .before .before .before .before .before .before .shared-slice-known .given k)) (c .before .before .before .before .before .before .loop .inv .0) (r .0) (r .1) (r .2), chunk-known (r .2))
+    let l = c .before .before .before .before .before .before in
+    let r = found (c .before .before .before) (c .before .size .given .1) in (
+      read-chunk-on (λ (k : ℕ). omega (arith, l .before .shared-slice-known .given k)) (l .loop .inv .0) (r .0) (r .1) (r .2),
+      chunk-known (r .2),
+    )
 
 pub decide-spec : {M : Type 1} → statement M
 decide-spec =
@@ -100,19 +118,19 @@ decide-spec =
     loop-holds
     sub-again
     again-requires
-    add-i
-    add-i-2
-    add-i-3
-    add-t
+    add-at
+    add-at-2
+    add-at-3
+    add-total
     loop-less
     loop-again
     chunk-requires
     (λ c. search needs)
     returns
     (λ c. search needs)
-    sub-w
-    add-i-4
-    add-i-5
-    add-t-2
+    sub-length
+    add-at-4
+    add-at-5
+    add-total-2
     loop-less-2
     loop-again-2)

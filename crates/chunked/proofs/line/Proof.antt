@@ -8,12 +8,12 @@ use Rattle.chunked.proofs.line.Tie as tie
 extensions-requires : tie.Need-extensions-requires
 extensions-requires c κs =
     let s = c .before .before .before .before .before .args in
-    subst (SizeRead (s .room) (s .input .now) (s .i) (s .t)) (c .before .value .given .1) (c .before .before .before .digits .ensures)
+    subst (SizeRead (s .room) (s .input .now) (s .at) (s .total)) (c .before .value .given .1) (c .before .before .before .size-digits .ensures)
 
 returns : tie.Need-returns
 returns c =
     let s = c .before .before .before .before .before .args in
-    subst (SizeRead (s .room) (s .input .now) (s .i) (s .t)) (c .before .a .given .1) (c .before .before .before .digits .ensures)
+    subst (SizeRead (s .room) (s .input .now) (s .at) (s .total)) (c .before .answer .given .1) (c .before .before .before .size-digits .ensures)
 
 pub line-spec : {M : Type 1} → statement M
 line-spec =

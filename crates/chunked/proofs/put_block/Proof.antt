@@ -8,10 +8,10 @@ use Rattle.chunked.proofs.put_block.Statement.{statement}
 use Rattle.chunked.proofs.put_block.Tie as tie
 
 abbrev Inv-loop : tie.InvT-loop
-Inv-loop dst₀ b k₀ dst k = (length b ≡ 16) × (k ≤ 16) × Front dst₀ b dst k
+Inv-loop dst₀ bytes i₀ dst i = (length bytes ≡ 16) × (i ≤ 16) × Front dst₀ bytes dst i
 
 abbrev μ-loop : tie.MeasureT-loop
-μ-loop dst₀ b k₀ dst k = 16 - k
+μ-loop dst₀ bytes i₀ dst i = 16 - i
 
 loop-holds : tie.Need-loop-holds Inv-loop μ-loop
 loop-holds c = (c .pre .1, omega arith, record { is = refl; within = omega arith })
@@ -20,22 +20,30 @@ array-read-dst : tie.Need-array-read-dst Inv-loop μ-loop
 array-read-dst c = search needs
 
 slice-write-dst : tie.Need-slice-write-dst Inv-loop μ-loop
-slice-write-dst c = omega (arith, front-length (c .before .before .args .dst .now) (c .before .before .args .t2) (c .before .loop .dst) (c .before .loop .k) (c .before .before .pre .0 ∙ sym (c .before .before .pre .1)) (c .before .loop .inv .2))
+slice-write-dst c =
+    let s = c .before .before .pre in
+    omega (arith, front-length (s .0 ∙ sym (s .1)) (c .before .loop .inv .2))
 
-add-k : tie.Need-add-k Inv-loop μ-loop
-add-k c = search needs
+add-i : tie.Need-add-i Inv-loop μ-loop
+add-i c = search needs
 
 loop-less : tie.Need-loop-less Inv-loop μ-loop
 loop-less c = search needs
 
 loop-again : tie.Need-loop-again Inv-loop μ-loop
-loop-again c = (c .before .before .pre .1, omega arith, front-on (c .before .before .args .dst .now) (c .before .before .args .t2) (c .before .loop .dst) (c .before .loop .k) (c .before .before .pre .0 ∙ sym (c .before .before .pre .1)) (c .before .loop .inv .2) (omega arith))
+loop-again c =
+    let s = c .before .before .pre in
+    (s .1, omega arith, front-on (s .0 ∙ sym (s .1)) (c .before .loop .inv .2) (omega arith))
 
 same-length : tie.Need-same-length Inv-loop μ-loop
-same-length c = front-length (c .before .before .args .dst .now) (c .before .before .args .t2) (c .before .loop .dst) (c .before .loop .k) (c .before .before .pre .0 ∙ sym (c .before .before .pre .1)) (c .before .loop .inv .2)
+same-length c =
+    let s = c .before .before .pre in
+    front-length (s .0 ∙ sym (s .1)) (c .before .loop .inv .2)
 
 returns : tie.Need-returns Inv-loop μ-loop
-returns c = front-all (c .before .before .args .dst .now) (c .before .before .args .t2) (c .before .loop .dst) (c .before .loop .k) (c .before .before .pre .0 ∙ sym (c .before .before .pre .1)) (c .before .loop .inv .2) (omega arith)
+returns c =
+    let s = c .before .before .pre in
+    front-all (s .0 ∙ sym (s .1)) (c .before .loop .inv .2) (omega arith)
 
 pub put-block-spec : {M : Type 1} → statement M
 put-block-spec =
@@ -46,7 +54,7 @@ put-block-spec =
     loop-holds
     array-read-dst
     slice-write-dst
-    add-k
+    add-i
     loop-less
     loop-again
     same-length

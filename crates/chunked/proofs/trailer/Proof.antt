@@ -1,11 +1,11 @@
--- `chunked::trailer` meets its contract. The loop stands in the trailer, at the position p.
+-- `chunked::trailer` meets its contract. The loop stands in the trailer, at the position `pos`.
 use native.Mathlib.Omega.{arith}
 use borrow.Author.Needs.{needs}
 use Prim.Native.Nat.{_-_, _≤_}
-use mathlib.Core.Path.{sym, _∙_, ap}
+use mathlib.Core.Path.{_≡_, sym, _∙_, ap}
 use borrow.Author.Tests.{not-true, not-false}
-use lib.ListN.{length}
-use Rattle.framing.specs.helpers.Machine.{trailLive}
+use lib.ListN.{length, getD}
+use Rattle.framing.specs.helpers.Machine.{trailStep, trailLive}
 use Rattle.framing.specs.declared.State.the-variants.{Trail}
 use Rattle.chunked.specs.helpers.Passes.{At}
 use Rattle.chunked.proofs.Passes.{at-more, last-more, last-refused}
@@ -14,30 +14,59 @@ use Rattle.chunked.proofs.trailer.Statement.{statement}
 use Rattle.chunked.proofs.trailer.Tie as tie
 
 abbrev Inv-loop : tie.InvT-loop
-Inv-loop input i t room p₀ k₀ p k = (i ≤ k) × At room input (Trail p (k - i) t) k
+Inv-loop input start total room pos₀ at₀ pos at = (start ≤ at) × At room input (Trail pos (at - start) total) at
 
 abbrev μ-loop : tie.MeasureT-loop
-μ-loop input i t room p₀ k₀ p k = length input - k
+μ-loop input start total room pos₀ at₀ pos at = length input - at
 
 loop-holds : tie.Need-loop-holds Inv-loop μ-loop
 loop-holds c = (omega arith, trail-start (c .before .pre))
 
 close-requires : tie.Need-close-requires Inv-loop μ-loop
-close-requires c κs = trail-closed _ (c .before .before .before .before .loop .inv .0) (c .before .before .before .before .loop .inv .1) (c .before .before .before .loop-test .taken) (sym (c .before .closes .ensures) ∙ c .if1 .taken)
+close-requires c κs =
+    let l = c .before .before .before in
+    trail-closed _ (l .before .loop .inv .0) (l .before .loop .inv .1) (l .loop-test .taken)
+    (sym (c .before .closes .ensures) ∙ c .if1 .taken)
+
+-- is the position behind the byte live
+alive : (c : tie.After-trail-live Inv-loop μ-loop)
+    → trailLive (trailStep (c .before .before .before .before .before .before .loop .pos)
+    (getD (c .before .before .before .before .before .before .before .before .args .input .now)
+    (c .before .before .before .before .before .before .loop .at) 0))
+    ≡ c .trail-live .result
+alive c = sym (ap trailLive (c .before .trail-step .ensures)) ∙ sym (c .trail-live .ensures)
 
 returns-2 : tie.Need-returns-2 Inv-loop μ-loop
-returns-2 c = last-refused (c .refuse .ensures)
-    (trail-wrong _ (c .before .before .before .before .before .before .before .before .loop .inv .0) (c .before .before .before .before .before .before .before .before .loop .inv .1) (c .before .before .before .before .before .before .before .loop-test .taken) (sym (c .before .before .before .before .before .closes .ensures) ∙ c .before .before .before .before .if1 .left) (sym (ap trailLive (c .before .before .before .trail-step .ensures)) ∙ sym (c .before .before .trail-live .ensures) ∙ not-true _ (c .before .if2 .taken)))
+returns-2 c =
+    let v = c .before .before in
+    let e = v .before .before in
+    let l = e .before .before .before in
+    last-refused (c .refuse .ensures)
+    (trail-wrong _ (l .before .loop .inv .0) (l .before .loop .inv .1) (l .loop-test .taken)
+    (sym (e .before .closes .ensures) ∙ e .if1 .left)
+    (alive v ∙ not-true _ (c .before .if2 .taken)))
 
 returns-3 : tie.Need-returns-3 Inv-loop μ-loop
-returns-3 c = last-refused (c .refuse2 .ensures)
-    (trail-long _ (c .before .before .before .before .before .before .before .before .before .loop .inv .0) (c .before .before .before .before .before .before .before .before .before .loop .inv .1) (c .before .before .before .before .before .before .before .before .loop-test .taken) (sym (c .before .before .before .before .before .before .closes .ensures) ∙ c .before .before .before .before .before .if1 .left) (sym (ap trailLive (c .before .before .before .before .trail-step .ensures)) ∙ sym (c .before .before .before .trail-live .ensures) ∙ not-false _ (c .before .before .if2 .left)) (c .before .if3 .taken))
+returns-3 c =
+    let v = c .before .before .before in
+    let e = v .before .before in
+    let l = e .before .before .before in
+    last-refused (c .refuse2 .ensures)
+    (trail-long _ (l .before .loop .inv .0) (l .before .loop .inv .1) (l .loop-test .taken)
+    (sym (e .before .closes .ensures) ∙ e .if1 .left)
+    (alive v ∙ not-false _ (c .before .before .if2 .left)) (c .before .if3 .taken))
 
 loop-again : tie.Need-loop-again Inv-loop μ-loop
-loop-again c = (
-  omega arith,
-  rw (c .before .before .before .trail-step .ensures) (trail-on _ (c .before .before .before .before .before .before .before .before .loop .inv .0) (c .before .before .before .before .before .before .before .before .loop .inv .1) (c .before .before .before .before .before .before .before .loop-test .taken) (sym (c .before .before .before .before .before .closes .ensures) ∙ c .before .before .before .before .if1 .left) (sym (ap trailLive (c .before .before .before .trail-step .ensures)) ∙ sym (c .before .before .trail-live .ensures) ∙ not-false _ (c .before .if2 .left)) (c .if3 .left)),
-)
+loop-again c =
+    let v = c .before .before in
+    let e = v .before .before in
+    let l = e .before .before .before in (
+      omega arith,
+      rw (v .before .trail-step .ensures)
+          (trail-on _ (l .before .loop .inv .0) (l .before .loop .inv .1) (l .loop-test .taken)
+          (sym (e .before .closes .ensures) ∙ e .if1 .left)
+          (alive v ∙ not-false _ (c .before .if2 .left)) (c .if3 .left)),
+    )
 
 returns-4 : tie.Need-returns-4 Inv-loop μ-loop
 returns-4 c = last-more (at-more (c .before .loop .inv .1) (c .loop-test .left))

@@ -1,13 +1,14 @@
 -- Where a pass over the input stands, and what its parts find. Definitions for the contracts of the helpers.
 use mathlib.Core.Path.{_≡_}
 use mathlib.Core.Bool.{false}
-use mathlib.Core.List.{List, [], _∷_, _++_}
+use mathlib.Core.List.{List, _++_}
 use Prim.Native.Nat.{ℕ, _+_, _-_, _<_, _≤_}
+use Prim.Native.Char.{code}
 use lib.ListN.{length, getD, take, drop}
 use Rattle.octets.specs.Bytes.{hex?}
 use Rattle.framing.specs.Answer.{whole}
 use Rattle.framing.specs.Grammar as G
-use Rattle.framing.specs.Grammar.{LINE_LIMIT}
+use Rattle.framing.specs.Grammar.{crlf, LINE_LIMIT}
 use Rattle.framing.specs.declared.LinePos.the-variants.{First, Size}
 use Rattle.framing.specs.declared.State.{State}
 use Rattle.framing.specs.declared.State.the-variants.{Line, Data}
@@ -18,6 +19,7 @@ use Rattle.chunked.specs.Verdict.{verdict}
 use Rattle.chunked.specs.declared.Answer.{Answer}
 use Rattle.chunked.specs.declared.Sized.{Sized}
 use Rattle.chunked.specs.declared.Sized.the-variants as Sized
+use Rattle.chunked.specs.declared.LastLine.{LastLine}
 use Rattle.chunked.specs.declared.Found.{Found}
 use Rattle.chunked.specs.declared.Found.the-variants as Found
 
@@ -43,6 +45,9 @@ pub record Last (room : ℕ) (xs : List ℕ) (t : ℕ) (a : Answer) : Type 0 whe
 
 -- ## Chunk lines
 
+abbrev pub cr-byte : ℕ
+cr-byte = code "\r"
+
 -- the w bytes at i are a chunk line of the grammar, within its limit, that gives v, then z
 pub record LineAt (xs : List ℕ) (i w v : ℕ) (z : List ℕ) : Type 0 where
   pub inside : i + w ≤ length xs
@@ -61,24 +66,24 @@ SizeRead room xs i t (Sized.Over a) = Last room xs t a
 -- the line at i, which has t bytes of data before it, gives the size v, above zero, with the data at j
 abbrev pub LineRead : ℕ → List ℕ → ℕ → ℕ → Found → Type 0
 LineRead room xs i t (Found.Data v j) =
-    (0 < v) × (i ≤ j) × At room xs (Data (v - 1) (t + v)) j × LineAt xs i (j - i) v (13 ∷ 10 ∷ [])
+    (0 < v) × (i ≤ j) × At room xs (Data (v - 1) (t + v)) j × LineAt xs i (j - i) v crlf
 LineRead room xs i t (Found.Over a) = Last room xs t a
 
--- where w is above zero: such a line of w bytes stands at p, with v bytes or more behind it
-pub record Known (xs : List ℕ) (p w v : ℕ) : Type 0 where
-  pub inside : p + w + v ≤ length xs
-  pub line : 0 < w → (0 < v) × LineAt xs p w v (13 ∷ 10 ∷ [])
+-- where a last line was read: it is such a line, with as many bytes as it gives or more behind it
+pub record Known (xs : List ℕ) (last : LastLine) : Type 0 where
+  pub inside : last .at + last .length + last .size ≤ length xs
+  pub line : 0 < last .length → (0 < last .size) × LineAt xs (last .at) (last .length) (last .size) crlf
 
 -- CR LF stand at i
 pub record CrlfAt (xs : List ℕ) (i : ℕ) : Type 0 where
   pub inside : i + 2 ≤ length xs
-  pub cr : getD xs i 0 ≡ 13
-  pub lf : getD xs (i + 1) 0 ≡ 10
+  pub cr : getD xs i 0 ≡ cr-byte
+  pub lf : getD xs (i + 1) 0 ≡ code "\n"
 
 -- a chunk stands at i: a line of w bytes that gives v, above zero, v bytes, CR LF
 pub record ChunkAt (xs : List ℕ) (i w v : ℕ) : Type 0 where
   pub some : 0 < v
-  pub line : LineAt xs i w v (13 ∷ 10 ∷ [])
+  pub line : LineAt xs i w v crlf
   pub end : CrlfAt xs (i + (w + v))
 
 -- the chunk at i, which has t bytes of data before it, fits into the room; its data, v bytes, is at j

@@ -1,10 +1,10 @@
 -- `date::fitting_at` meets its contract: the bytes passed and those that fit from there on are all that fit.
-use Prim.Native.Nat.{ℕ, _+_, _-_}
+use Prim.Native.Nat.{_+_, _-_}
 use native.Mathlib.Omega.{arith}
 use borrow.Author.Needs.{needs}
 use borrow.Author.Tests.{not-true, not-false}
-use mathlib.Core.Path.{_≡_, refl, sym, _∙_}
-use lib.ListN.{length, drop, getD}
+use mathlib.Core.Path.{_≡_, sym, _∙_}
+use lib.ListN.{length, drop}
 use Rattle.octets.specs.helpers.Shapes.{stands-for, fitting}
 use Rattle.date.proofs.Tables.{fit-shape-out, fit-text-out, fit-differs, fit-next}
 use Rattle.date.proofs.fitting_at.Statement.{statement}

@@ -1,5 +1,4 @@
 -- `date::four_digits` meets its contract.
-use native.Mathlib.Omega.{arith}
 use borrow.Author.Needs.{needs}
 use Rattle.date.proofs.Tables.{four-number}
 use Rattle.date.proofs.four_digits.Statement.{statement}

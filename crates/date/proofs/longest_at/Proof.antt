@@ -1,8 +1,8 @@
 -- `date::longest_at` meets its contract: the longest of the names passed, and of those from there on, is the longest of all.
-use Prim.Native.Nat.{ℕ, _+_, _-_, _≤_}
+use Prim.Native.Nat.{_-_, _≤_}
 use native.Mathlib.Omega.{arith}
 use borrow.Author.Needs.{needs}
-use mathlib.Core.Path.{_≡_, refl, sym, _∙_}
+use mathlib.Core.Path.{_≡_, refl, sym}
 use lib.ListN.{length, drop}
 use Rattle.grammar.specs.helpers.Words.{larger}
 use Rattle.date.specs.helpers.Shapes.{longest}
@@ -18,18 +18,22 @@ abbrev μ-loop : tie.MeasureT-loop
 
 loop-again : tie.Need-loop-again Inv-loop μ-loop
 loop-again c =
+    let n = c .before .fitting-at .result in
     let l = c .before .before .before .before .loop in
     let x = c .before .before .before .before .before .before .before .args in (
       omega arith,
-      longest-on (x .names .now) (drop (x .at) (x .s .now)) (l .best) (l .k) (l .inv .1) (omega arith) (c .before .fitting-at .result) (c .before .fitting-at .result) (c .before .fitting-at .ensures) (sym (larger-right (l .best) (c .before .fitting-at .result) (c .if1 .taken))),
+      longest-on (x .names .now) (drop (x .at) (x .s .now)) (l .best) (l .k) (l .inv .1) (omega arith) n n (c .before .fitting-at .ensures)
+          (sym (larger-right (l .best) n (c .if1 .taken))),
     )
 
 loop-again-2 : tie.Need-loop-again-2 Inv-loop μ-loop
 loop-again-2 c =
+    let n = c .before .fitting-at .result in
     let l = c .before .before .before .before .loop in
     let x = c .before .before .before .before .before .before .before .args in (
       omega arith,
-      longest-on (x .names .now) (drop (x .at) (x .s .now)) (l .best) (l .k) (l .inv .1) (omega arith) (c .before .fitting-at .result) (l .best) (c .before .fitting-at .ensures) (sym (larger-left (l .best) (c .before .fitting-at .result) (c .if1 .left))),
+      longest-on (x .names .now) (drop (x .at) (x .s .now)) (l .best) (l .k) (l .inv .1) (omega arith) n (l .best) (c .before .fitting-at .ensures)
+          (sym (larger-left (l .best) n (c .if1 .left))),
     )
 
 returns : tie.Need-returns Inv-loop μ-loop

@@ -1,77 +1,58 @@
 -- `date::read_form` meets its contract.
-use native.Mathlib.Omega.{arith}
 use borrow.Author.Needs.{needs}
 use mathlib.Core.Path.{sym, ap, _∙_}
-use Rattle.date.specs.helpers.Scan.{dashed-head}
-use Rattle.date.proofs.Scan.{goes-fixed, goes-plain, goes-long, other-heads}
+use Rattle.date.specs.helpers.Scan.{rfc850-head, AtRfc850}
+use Rattle.date.proofs.Scan.{goes-rfc1123, goes-asctime, goes-long, other-heads}
 use Rattle.date.proofs.read_form.Statement.{statement}
 use Rattle.date.proofs.read_form.Tie as tie
 
-read-fixed-requires : tie.Need-read-fixed-requires
-read-fixed-requires c κs =
+read-rfc1123-requires : tie.Need-read-rfc1123-requires
+read-rfc1123-requires c κs =
     let z = c .before .before .before in
-    goes-fixed (z .args .s .now) (z .args .day) (z .pre) (sym (c .before .byte-is .ensures) ∙ c .if1 .taken)
+    goes-rfc1123 (z .args .s .now) (z .args .day) (z .pre) (sym (c .before .byte-is .ensures) ∙ c .if1 .taken)
 
-read-plain-requires : tie.Need-read-plain-requires
-read-plain-requires c κs =
+read-asctime-requires : tie.Need-read-asctime-requires
+read-asctime-requires c κs =
     let z = c .before .before .before .before .before in
-    goes-plain (z .args .s .now) (z .args .day) (z .pre) (sym (c .before .byte-is2 .ensures) ∙ c .if2 .taken)
+    goes-asctime (z .args .s .now) (z .args .day) (z .pre) (sym (c .before .byte-is2 .ensures) ∙ c .if2 .taken)
 
-read-dashed-requires : tie.Need-read-dashed-requires
-read-dashed-requires c κs =
-    let z = c .before .before .before .before .before .before .before in (
-      goes-long (z .args .s .now) (z .args .day) (z .pre) (sym (c .before .before .before .before .before .byte-is .ensures) ∙ c .before .before .before .before .if1 .left) (sym (c .before .before .before .byte-is2 .ensures) ∙ c .before .before .if2 .left),
-      sym (ap dashed-head (c .before .match .keys1)),
-    )
+-- neither a comma nor a blank stands behind the short name
+abbrev entry : tie.Else2 → tie.Start
+entry c = c .before .before .before .before .before
 
-read-dashed-requires-2 : tie.Need-read-dashed-requires-2
-read-dashed-requires-2 c κs =
-    let z = c .before .before .before .before .before .before .before in (
-      goes-long (z .args .s .now) (z .args .day) (z .pre) (sym (c .before .before .before .before .before .byte-is .ensures) ∙ c .before .before .before .before .if1 .left) (sym (c .before .before .before .byte-is2 .ensures) ∙ c .before .before .if2 .left),
-      sym (ap dashed-head (c .before .match .keys2)),
-    )
+at-long : (c : tie.Else2) → AtRfc850 (entry c .args .s .now) (entry c .args .day)
+at-long c =
+    let z = entry c in
+    let i = c .before .before in
+    goes-long (z .args .s .now) (z .args .day) (z .pre) (sym (i .before .byte-is .ensures) ∙ i .if1 .left)
+    (sym (c .before .byte-is2 .ensures) ∙ c .if2 .left)
 
-read-dashed-requires-3 : tie.Need-read-dashed-requires-3
-read-dashed-requires-3 c κs =
-    let z = c .before .before .before .before .before .before .before in (
-      goes-long (z .args .s .now) (z .args .day) (z .pre) (sym (c .before .before .before .before .before .byte-is .ensures) ∙ c .before .before .before .before .if1 .left) (sym (c .before .before .before .byte-is2 .ensures) ∙ c .before .before .if2 .left),
-      sym (ap dashed-head (c .before .match .keys3)),
-    )
-
-read-dashed-requires-4 : tie.Need-read-dashed-requires-4
-read-dashed-requires-4 c κs =
-    let z = c .before .before .before .before .before .before .before in (
-      goes-long (z .args .s .now) (z .args .day) (z .pre) (sym (c .before .before .before .before .before .byte-is .ensures) ∙ c .before .before .before .before .if1 .left) (sym (c .before .before .before .byte-is2 .ensures) ∙ c .before .before .if2 .left),
-      sym (ap dashed-head (c .before .match .keys4)),
-    )
-
-read-dashed-requires-5 : tie.Need-read-dashed-requires-5
-read-dashed-requires-5 c κs =
-    let z = c .before .before .before .before .before .before .before in (
-      goes-long (z .args .s .now) (z .args .day) (z .pre) (sym (c .before .before .before .before .before .byte-is .ensures) ∙ c .before .before .before .before .if1 .left) (sym (c .before .before .before .byte-is2 .ensures) ∙ c .before .before .if2 .left),
-      sym (other-heads (z .args .day) (c .before .match .rest .0 .0 .0 .1) (c .before .match .rest .0 .0 .1) (c .before .match .rest .0 .1) (c .before .match .rest .1)),
-    )
+other-head : tie.Need-read-rfc850-requires-5
+other-head c κs =
+    let o = c .before .match .rest in
+    let e = c .before .before in
+    (at-long e, sym (other-heads (entry e .args .day) (o .0 .0 .0 .1) (o .0 .0 .1) (o .0 .1) (o .1)))
 
 pub read-form-spec : {M : Type 1} → statement M
 read-form-spec =
     tie.close
     (tie.spec
     (λ c κs. search needs)
-    read-fixed-requires
+    read-rfc1123-requires
     (λ c. search needs)
     (λ c κs. search needs)
-    read-plain-requires
+    read-asctime-requires
     (λ c. search needs)
     (λ c. search needs)
-    read-dashed-requires
+    (λ c κs. (at-long (c .before .before), sym (ap rfc850-head (c .before .match .keys1))))
     (λ c. search needs)
-    read-dashed-requires-2
+    (λ c κs. (at-long (c .before .before), sym (ap rfc850-head (c .before .match .keys2))))
     (λ c. search needs)
-    read-dashed-requires-3
+    (λ c κs. (at-long (c .before .before), sym (ap rfc850-head (c .before .match .keys3))))
     (λ c. search needs)
-    read-dashed-requires-4
+    (λ c κs. (at-long (c .before .before), sym (ap rfc850-head (c .before .match .keys4))))
     (λ c. search needs)
-    read-dashed-requires-5
+    other-head
     (λ c. search needs)
     (λ c. search needs)
     (λ c. search needs)

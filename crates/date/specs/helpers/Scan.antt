@@ -1,13 +1,14 @@
 -- For the contracts of the reader's helpers.
-use Prim.Native.Nat.{ℕ, zero, suc, _+_, _/_, _≤_, _<_}
+use Prim.Native.Nat.{ℕ, zero, suc, _+_, _≤_, _<_}
 use mathlib.Core.Path.{_≡_}
 use mathlib.Core.Bool.{Bool, cond}
 use mathlib.Core.List.{List, [], _∷_, _++_}
-use mathlib.Core.Option.{Option, none, some}
-use lib.Dec.{T, leb, ltb}
+use lib.Dec.{T, ltb, eqb}
 use lib.ListN.{length, drop}
 use Rattle.grammar.specs.Grammar.{Part, Grammar, lit, bytes?}
 use Rattle.grammar.specs.Reading.{Verdict, refused}
+use Rattle.grammar.specs.Refusals.{MALFORMED}
+use Rattle.grammar.specs.Text.{bytes}
 use Rattle.grammar.specs.helpers.Judge.{header, unless-fault}
 use Rattle.grammar.specs.helpers.Checks.{ahead}
 use Rattle.grammar.specs.helpers.Scans.{slice, from}
@@ -17,29 +18,21 @@ use Rattle.date.specs.declared.Date.{Date}
 use Rattle.date.specs.declared.Places.{Places}
 use Rattle.date.specs.declared.Tail.{Tail}
 use Rattle.date.specs.declared.Tail.the-variants.{Month, Stops}
-use Rattle.date.specs.Grammar.{Name, weekday, fixed, dashed, plain, forms, full-year, fault-of, value-of, rules}
+use Rattle.date.specs.Grammar.{Name, weekday, rfc850, forms, full-year, fault-of, value-of, rules}
 use Rattle.date.specs.Names.{month-names, first-name}
 use Rattle.octets.specs.helpers.Shapes.{fitting}
 use Rattle.date.specs.helpers.Shapes.{longest}
 
--- the place that was found, or d
-abbrev pub index : ℕ → Option ℕ → ℕ
-index d none = d
-index d (some k) = k
-
--- the place among the names of the one that the text begins with, or the number of names
-unfoldable pub name-index : (names text : List ℕ) → ℕ
-name-index names t = index (length names / 3) (first-name names t 0)
-
 -- the rest of the long name of a day
 abbrev pub rest-of : ℕ → List ℕ
-rest-of zero = 100 ∷ 97 ∷ 121 ∷ []
-rest-of (suc zero) = 115 ∷ 100 ∷ 97 ∷ 121 ∷ []
-rest-of (suc (suc zero)) = 110 ∷ 101 ∷ 115 ∷ 100 ∷ 97 ∷ 121 ∷ []
-rest-of (suc (suc (suc zero))) = 114 ∷ 115 ∷ 100 ∷ 97 ∷ 121 ∷ []
-rest-of (suc (suc (suc (suc zero)))) = 100 ∷ 97 ∷ 121 ∷ []
-rest-of (suc (suc (suc (suc (suc zero))))) = 117 ∷ 114 ∷ 100 ∷ 97 ∷ 121 ∷ []
-rest-of (suc (suc (suc (suc (suc (suc k)))))) = 100 ∷ 97 ∷ 121 ∷ []
+rest-of zero = bytes "day"
+rest-of (suc zero) = bytes "sday"
+rest-of (suc (suc zero)) = bytes "nesday"
+rest-of (suc (suc (suc zero))) = bytes "rsday"
+rest-of (suc (suc (suc (suc zero)))) = bytes "day"
+rest-of (suc (suc (suc (suc (suc zero))))) = bytes "urday"
+-- Sunday: no day behind it is asked for
+rest-of (suc (suc (suc (suc (suc (suc k)))))) = bytes "day"
 
 abbrev pub rest-bytes : (k : ℕ) → T (bytes? (rest-of k))
 rest-bytes zero = tt
@@ -51,31 +44,32 @@ rest-bytes (suc (suc (suc (suc (suc zero))))) = tt
 rest-bytes (suc (suc (suc (suc (suc (suc k)))))) = tt
 
 -- the shape of what stands between the short name of a day and the month, in the form of RFC 850
-abbrev pub dashed-head : ℕ → List ℕ
-dashed-head k = rest-of k ++ (44 ∷ 32 ∷ 48 ∷ 48 ∷ 45 ∷ [])
+abbrev pub rfc850-head : ℕ → List ℕ
+rfc850-head k = rest-of k ++ bytes ", 00-"
 
 abbrev pub day-part : ℕ → Part Name
 day-part k = record { label = weekday k; start = 3; text = [] }
 
 -- the day k is named, and the answer is what g finds from the place 3 on
 pub record Goes (g : Grammar Name) (s : List ℕ) (k : ℕ) : Type 0 where
-  pub below : k < 7
   pub short : length s ≤ 8192
   pub reads : header rules s ≡ from rules s (ahead (day-part k ∷ []) g) 3
 
 abbrev pub AfterDay : List ℕ → ℕ → Type 0
 AfterDay s k = Goes (forms (rest-of k) (rest-bytes k)) s k
 
-abbrev pub AtDashed : List ℕ → ℕ → Type 0
-AtDashed s k = Goes (lit (rest-of k) (rest-bytes k) dashed) s k
+abbrev pub AtRfc850 : List ℕ → ℕ → Type 0
+AtRfc850 s k = Goes (lit (rest-of k) (rest-bytes k) rfc850) s k
+
+-- where a month has the number m, or is none with m = 0, and n bytes of a shape of the length l stand behind it
+abbrev pub tail-of : (s : List ℕ) (at l m n : ℕ) → Tail
+tail-of s at l m n =
+    cond (eqb m 0) (Stops (at + longest month-names (drop at s)))
+    (cond (ltb n l) (Stops (at + 3 + n)) (cond (ltb (at + 3 + n) (length s)) (Stops (at + 3 + n)) (Month m)))
 
 -- a month at the place `at`, a text of that shape behind it, and the end
 unfoldable pub month-then : (shape s : List ℕ) (at : ℕ) → Tail
-month-then w s at =
-    let k = name-index month-names (drop at s) in
-    let n = fitting w (drop (at + 3) s) in
-    cond (leb 12 k) (Stops (at + longest month-names (drop at s)))
-    (cond (ltb n (length w)) (Stops (at + 3 + n)) (cond (ltb (at + 3 + n) (length s)) (Stops (at + 3 + n)) (Month (k + 1))))
+month-then w s at = tail-of s at (length w) (first-name 1 month-names (drop at s)) (fitting w (drop (at + 3) s))
 
 -- the answer to a well-formed date
 unfoldable pub judged : (named : ℕ) → Fields → Verdict Date
@@ -96,9 +90,13 @@ fields-from s m p = record {
   second = number (slice s (p .time + 6) (p .time + 6 + 2));
 }
 
+-- each of the places has its bytes
+abbrev pub Inside : List ℕ → Places → Type 0
+Inside s p = (p .year + 4 ≤ length s) × (p .day + 2 ≤ length s) × (p .time + 8 ≤ length s)
+
 -- the day k is named, and the answer is what a month and a text of the shape w behind it make
 pub record Ending (s : List ℕ) (k : ℕ) (w : List ℕ) (p : Places) : Type 0 where
   pub room : p .month + length w < 8192
-  pub stops : (q : ℕ) → month-then w s (p .month) ≡ Stops q → header rules s ≡ refused 1 q
+  pub stops : (q : ℕ) → month-then w s (p .month) ≡ Stops q → header rules s ≡ refused MALFORMED q
   pub ends : (m : ℕ) → month-then w s (p .month) ≡ Month m → header rules s ≡ judged k (fields-from s m p)
-  pub inside : (m : ℕ) → month-then w s (p .month) ≡ Month m → (p .year + 4 ≤ length s) × (p .day + 2 ≤ length s) × (p .time + 8 ≤ length s)
+  pub inside : (m : ℕ) → month-then w s (p .month) ≡ Month m → Inside s p

@@ -15,8 +15,8 @@ returns : tie.Need-returns
 returns c =
     let x = c .before .before .before .before .before .before .before .args in
     c .same .ensures
-    ∙ ap₂ (λ (m n : ℕ). same? (take m (drop (x .v .start) (x .a .now))) (take n (drop (x .w .start) (x .b .now)))) (part-length (x .v .start) (x .v .len))
-    (part-length (x .w .start) (x .w .len))
+    ∙ ap₂ (λ (m n : ℕ). same? (take m (drop (x .v .start) (x .a .now))) (take n (drop (x .w .start) (x .b .now)))) (part-length (x .v .start) (x .v .length))
+    (part-length (x .w .start) (x .w .length))
 
 pub match-weakly-spec : {M : Type 1} → statement M
 match-weakly-spec =

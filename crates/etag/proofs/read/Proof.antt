@@ -5,13 +5,12 @@ use mathlib.Core.Path.{sym, ap, _∙_}
 use Rattle.grammar.specs.Reading.{refused}
 use Rattle.grammar.proofs.Loop.{header-long}
 use Rattle.etag.specs.Grammar.{rules}
-use Rattle.etag.specs.Reading.{verdict}
 use Rattle.etag.proofs.Scan.{mark-none, mark-cut, mark-whole}
 use Rattle.etag.proofs.read.Statement.{statement}
 use Rattle.etag.proofs.read.Tie as tie
 
 returns : tie.Need-returns
-returns c = ap verdict (c .refused .ensures) ∙ sym (header-long rules (c .before .before .before .args .s .now) (c .before .if1 .taken))
+returns c = sym (header-long rules (c .before .before .args .s .now) (c .if1 .taken))
 
 read-opaque-requires : tie.Need-read-opaque-requires
 read-opaque-requires c κs =
@@ -20,11 +19,10 @@ read-opaque-requires c κs =
 
 returns-3 : tie.Need-returns-3
 returns-3 c =
-    let w = c .before .before .before .word-at in
-    let s = c .before .before .before .before .before .before .before .args .s .now in
-    ap verdict (c .refused2 .ensures)
-    ∙ sym (mark-cut s (c .before .before .before .before .before .if1 .left) (λ e. c .before .before .if2 .left (w .ensures ∙ e))
-    (omega (arith, w .ensures, c .before .if3 .taken)) ∙ ap (refused 1) (sym (w .ensures)))
+    let w = c .before .before .word-at in
+    let s = c .before .before .before .before .before .before .args .s .now in
+    sym (mark-cut s (c .before .before .before .before .if1 .left) (λ e. c .before .if2 .left (w .ensures ∙ e))
+    (omega (arith, w .ensures, c .if3 .taken)) ∙ ap (refused 1) (sym (w .ensures)))
 
 read-opaque-requires-2 : tie.Need-read-opaque-requires-2
 read-opaque-requires-2 c κs =
@@ -36,13 +34,11 @@ pub read-spec : {M : Type 1} → statement M
 read-spec =
     tie.close
     (tie.spec
-    (λ c κs. search needs)
     returns
     (λ c. search needs)
     (λ c κs. search needs)
     read-opaque-requires
     (λ c. search needs)
-    (λ c κs. search needs)
     returns-3
     read-opaque-requires-2
     (λ c. search needs))

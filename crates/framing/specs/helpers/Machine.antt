@@ -3,7 +3,9 @@ use mathlib.Core.Bool.{Bool, true, false, _&&_, cond}
 use mathlib.Core.List.{List, [], _∷_}
 use mathlib.Core.Option.{Option, none, some}
 use Prim.Native.Nat.{ℕ, zero, suc, _+_, _*_}
+use Prim.Native.Char.{code}
 use lib.Dec.{ltb, eqb}
+use Rattle.grammar.specs.Refusals.{LINE_TOO_LONG, TRAILER_TOO_LONG, BODY_TOO_LARGE}
 use Rattle.octets.specs.Bytes.{octet?, hex?, hex-value, token?, text?, escaped?, content?}
 use Rattle.framing.specs.Grammar.{LINE_LIMIT, TRAILER_LIMIT}
 use Rattle.framing.specs.declared.ExtPos.{ExtPos}
@@ -17,12 +19,14 @@ use Rattle.framing.specs.declared.State.the-variants.{Line, LineFeed, Da
 
 -- ## Extensions: after a whole one, in a name, in a value
 abbrev pub extStep : ExtPos → ℕ → ExtPos
-extStep ExtPos.Between b = cond (eqb b 59) ExtPos.Name0 ExtPos.Bad
+extStep ExtPos.Between b = cond (eqb b (code ";")) ExtPos.Name0 ExtPos.Bad
 extStep ExtPos.Name0 b = cond (token? b) ExtPos.Name ExtPos.Bad
-extStep ExtPos.Name b = cond (token? b) ExtPos.Name (cond (eqb b 61) ExtPos.Value0 (cond (eqb b 59) ExtPos.Name0 ExtPos.Bad))
-extStep ExtPos.Value0 b = cond (token? b) ExtPos.Token (cond (eqb b 34) ExtPos.Quoted ExtPos.Bad)
-extStep ExtPos.Token b = cond (token? b) ExtPos.Token (cond (eqb b 59) ExtPos.Name0 ExtPos.Bad)
-extStep ExtPos.Quoted b = cond (text? b) ExtPos.Quoted (cond (eqb b 92) ExtPos.Pair (cond (eqb b 34) ExtPos.Between ExtPos.Bad))
+extStep ExtPos.Name b =
+    cond (token? b) ExtPos.Name (cond (eqb b (code "=")) ExtPos.Value0 (cond (eqb b (code ";")) ExtPos.Name0 ExtPos.Bad))
+extStep ExtPos.Value0 b = cond (token? b) ExtPos.Token (cond (eqb b (code "\"")) ExtPos.Quoted ExtPos.Bad)
+extStep ExtPos.Token b = cond (token? b) ExtPos.Token (cond (eqb b (code ";")) ExtPos.Name0 ExtPos.Bad)
+extStep ExtPos.Quoted b =
+    cond (text? b) ExtPos.Quoted (cond (eqb b (code "\\")) ExtPos.Pair (cond (eqb b (code "\"")) ExtPos.Between ExtPos.Bad))
 extStep ExtPos.Pair b = cond (escaped? b) ExtPos.Quoted ExtPos.Bad
 extStep ExtPos.Bad b = ExtPos.Bad
 
@@ -67,9 +71,9 @@ lineEnds (Ext v e) = cond (extEnds e) (some v) none
 -- ## Trailer lines, the closing CR LF left out
 abbrev pub trailStep : TrailPos → ℕ → TrailPos
 trailStep Start b = cond (token? b) Field Wrong
-trailStep Field b = cond (token? b) Field (cond (eqb b 58) Content Wrong)
-trailStep Content b = cond (content? b) Content (cond (eqb b 13) Feed Wrong)
-trailStep Feed b = cond (eqb b 10) Start Wrong
+trailStep Field b = cond (token? b) Field (cond (eqb b (code ":")) Content Wrong)
+trailStep Content b = cond (content? b) Content (cond (eqb b (code "\r")) Feed Wrong)
+trailStep Feed b = cond (eqb b (code "\n")) Start Wrong
 trailStep Wrong b = Wrong
 
 abbrev pub trailLive : TrailPos → Bool
@@ -100,14 +104,14 @@ enterChunk zero t = Trail Start 0 t
 enterChunk (suc m) t = Data m (t + suc m)
 
 unfoldable pub step : State → ℕ → State
-step (Line p k t) b = cond (eqb b 13) (leaveLine (lineEnds p) t) (Line (lineStep p b) (suc k) t)
-step (LineFeed v t) b = cond (eqb b 10) (enterChunk v t) Dead
+step (Line p k t) b = cond (eqb b (code "\r")) (leaveLine (lineEnds p) t) (Line (lineStep p b) (suc k) t)
+step (LineFeed v t) b = cond (eqb b (code "\n")) (enterChunk v t) Dead
 step (Data zero t) b = cond (octet? b) (DataCr t) Dead
 step (Data (suc m) t) b = cond (octet? b) (Data m t) Dead
-step (DataCr t) b = cond (eqb b 13) (DataLf t) Dead
-step (DataLf t) b = cond (eqb b 10) (Line First 0 t) Dead
-step (Trail p k t) b = cond (trailEnds p && eqb b 13) (EndLf t) (Trail (trailStep p b) (suc k) t)
-step (EndLf t) b = cond (eqb b 10) (Done t) Dead
+step (DataCr t) b = cond (eqb b (code "\r")) (DataLf t) Dead
+step (DataLf t) b = cond (eqb b (code "\n")) (Line First 0 t) Dead
+step (Trail p k t) b = cond (trailEnds p && eqb b (code "\r")) (EndLf t) (Trail (trailStep p b) (suc k) t)
+step (EndLf t) b = cond (eqb b (code "\n")) (Done t) Dead
 step (Done t) b = Dead
 step Dead b = Dead
 
@@ -151,16 +155,16 @@ done Dead = none
 -- finished chunks and the size read so far pass the room
 unfoldable pub pastRoom : ℕ → LinePos → ℕ → Option ℕ
 pastRoom room First t = none
-pastRoom room (Size v) t = cond (ltb room (t + v)) (some 7) none
+pastRoom room (Size v) t = cond (ltb room (t + v)) (some BODY_TOO_LARGE) none
 pastRoom room (Ext v e) t = none
 
 unfoldable pub over : ℕ → State → Option ℕ
-over room (Line p k t) = cond (eqb k (suc LINE_LIMIT)) (some 5) (pastRoom room p t)
+over room (Line p k t) = cond (eqb k (suc LINE_LIMIT)) (some LINE_TOO_LONG) (pastRoom room p t)
 over room (LineFeed v t) = none
 over room (Data m t) = none
 over room (DataCr t) = none
 over room (DataLf t) = none
-over room (Trail p k t) = cond (eqb k (suc TRAILER_LIMIT)) (some 6) none
+over room (Trail p k t) = cond (eqb k (suc TRAILER_LIMIT)) (some TRAILER_TOO_LONG) none
 over room (EndLf t) = none
 over room (Done t) = none
 over room Dead = none

@@ -5,6 +5,7 @@ use mathlib.Core.List.{List, [], _∷_, _++_}
 use mathlib.Core.Option.{Option, none, some}
 use Prim.Native.Nat.{ℕ, suc, _≤_}
 use lib.ListN.{take}
+use Rattle.grammar.specs.Refusals.{MALFORMED}
 use Rattle.framing.specs.Answer.{Answer, whole, more, refused}
 
 -- the body ended, with so many bytes of data; or the refusal of that number
@@ -20,7 +21,7 @@ verdictOf none none = none
 
 -- a state, by whether it is live, which body ended there, and which limit the byte that led to it broke
 abbrev pub judgeBy : Bool → Option ℕ → Option ℕ → Option Verdict
-judgeBy live done over = cond live (verdictOf done over) (some (refusal 1))
+judgeBy live done over = cond live (verdictOf done over) (some (refusal MALFORMED))
 
 -- no verdict to the end of the input, or one at a place
 pub data Found (W : Type 0) : Type 0 where

@@ -10,11 +10,18 @@ begins [] t = true
 begins (a ∷ w) [] = false
 begins (a ∷ w) (b ∷ t) = eqb b a && begins w t
 
+-- how many bytes at the front of the text agree with those of the word, by a test of a byte of the word and one of the text
+abbrev pub matching : (ℕ → ℕ → Bool) → (word text : List ℕ) → ℕ
+matching p [] t = 0
+matching p (a ∷ w) [] = 0
+matching p (a ∷ w) (b ∷ t) = cond (p a b) (suc (matching p w t)) 0
+
+abbrev pub same-byte : ℕ → ℕ → Bool
+same-byte a b = eqb b a
+
 -- how many bytes at the front of the text are those of the word
 abbrev pub common : (word text : List ℕ) → ℕ
-common [] t = 0
-common (a ∷ w) [] = 0
-common (a ∷ w) (b ∷ t) = cond (eqb b a) (suc (common w t)) 0
+common w t = matching same-byte w t
 
 abbrev pub larger : ℕ → ℕ → ℕ
 larger zero n = n

@@ -5,7 +5,6 @@ use mathlib.Core.Path.{_≡_, refl, sym, ap, ap₂, _∙_}
 use mathlib.Core.List.{List, [], _∷_}
 use denote.Enum.Declared.{tagOf}
 use types.Run.{OneOf, miss}
-use Rattle.grammar.specs.Reading.{value}
 use Rattle.grammar.specs.Comparing.{compare, outcome}
 use Rattle.grammar.specs.helpers.Judge.{header}
 use Rattle.grammar.proofs.Comparing.{compare-read}

@@ -1,8 +1,7 @@
 -- `language::part_end` meets its contract.
 use native.Mathlib.Omega.{arith}
 use borrow.Author.Needs.{needs}
-use borrow.Author.Tests.{lt-ltb, le-ltb}
-use mathlib.Core.Path.{sym, _∙_}
+use mathlib.Core.Path.{_∙_}
 use Rattle.octets.specs.Bytes.{letter?}
 use Rattle.octets.proofs.Tables.{letter-bits}
 use Rattle.language.proofs.Scan.{part-more, part-whole}

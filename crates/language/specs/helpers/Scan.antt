@@ -10,7 +10,7 @@ use Rattle.grammar.specs.helpers.Checks.{ahead}
 use Rattle.grammar.specs.helpers.Judge.{header}
 use Rattle.grammar.specs.helpers.Scans.{from}
 use Rattle.octets.specs.Bytes.{letter?}
-use Rattle.octets.specs.helpers.Runs.{run-end}
+use Rattle.scans.specs.helpers.Runs.{run-end}
 use Rattle.language.specs.Grammar.{Name, subtags, primary-length, rules}
 
 -- the place behind the letters at i, eight of them at most

@@ -1,4 +1,4 @@
--- `lines::all_hex` meets its contract. The bytes before i are digits.
+-- `lines::all_hex` meets its contract. The bytes before `at` are digits.
 use mathlib.Core.Path.{refl, sym, _∙_, ap, _≡_}
 use lib.ListN.{getD, drop-of-length-le, length, drop}
 use Prim.Native.Nat.{_-_, _≤_}
@@ -11,10 +11,10 @@ use Rattle.lines.proofs.all_hex.Statement.{statement}
 use Rattle.lines.proofs.all_hex.Tie as tie
 
 abbrev Inv-loop : tie.InvT-loop
-Inv-loop line i₀ i = (i ≤ length line) × (every hex? (drop i line) ≡ every hex? line)
+Inv-loop line at₀ at = (at ≤ length line) × (every hex? (drop at line) ≡ every hex? line)
 
 abbrev μ-loop : tie.MeasureT-loop
-μ-loop line i₀ i = length line - i
+μ-loop line at₀ at = length line - at
 
 loop-holds : tie.Need-loop-holds Inv-loop μ-loop
 loop-holds c = (omega arith, refl)
@@ -26,19 +26,36 @@ hex-value-requires : tie.Need-hex-value-requires Inv-loop μ-loop
 hex-value-requires c κs = search needs
 
 returns : tie.Need-returns Inv-loop μ-loop
-returns c = sym (every-stops (c .before .before .before .before .before .before .args .line .now) (c .before .before .before .before .loop .i) (c .before .before .before .loop-test .taken) hex? (no-digit (getD (c .before .before .before .before .before .before .args .line .now) (c .before .before .before .before .loop .i) 0) (c .before .hex-value .result) (c .before .hex-value .ensures) (c .if1 .taken))) ∙ c .before .before .before .before .loop .inv .1
+returns c =
+    let at-value = c .before in
+    let at-test = at-value .before .before in
+    let loop = at-test .before .loop in
+    let line = at-test .before .before .before .args .line .now in
+    let byte = getD line (loop .at) 0 in
+    let none = no-digit byte (at-value .hex-value .result) (at-value .hex-value .ensures) (c .if1 .taken) in
+    sym (every-stops line (loop .at) (at-test .loop-test .taken) hex? none) ∙ loop .inv .1
 
-add-i : tie.Need-add-i Inv-loop μ-loop
-add-i c = omega arith
+add-at : tie.Need-add-at Inv-loop μ-loop
+add-at c = omega arith
 
 loop-less : tie.Need-loop-less Inv-loop μ-loop
 loop-less c = omega arith
 
 loop-again : tie.Need-loop-again Inv-loop μ-loop
-loop-again c = (omega arith, every-on (c .before .before .before .before .before .before .args .line .now) (c .before .before .before .before .loop .i) (c .before .before .before .loop-test .taken) hex? (digit (getD (c .before .before .before .before .before .before .args .line .now) (c .before .before .before .before .loop .i) 0) (c .before .hex-value .result) (c .before .hex-value .ensures) (c .if1 .left)) ∙ c .before .before .before .before .loop .inv .1)
+loop-again c =
+    let at-value = c .before in
+    let at-test = at-value .before .before in
+    let loop = at-test .before .loop in
+    let line = at-test .before .before .before .args .line .now in
+    let byte = getD line (loop .at) 0 in
+    let one = digit byte (at-value .hex-value .result) (at-value .hex-value .ensures) (c .if1 .left) in
+    (omega arith, every-on line (loop .at) (at-test .loop-test .taken) hex? one ∙ loop .inv .1)
 
 returns-2 : tie.Need-returns-2 Inv-loop μ-loop
-returns-2 c = sym (ap (every hex?) (drop-of-length-le (c .before .before .before .args .line .now) {i = c .before .loop .i} (c .loop-test .left))) ∙ c .before .loop .inv .1
+returns-2 c =
+    let loop = c .before .loop in
+    let line = c .before .before .before .args .line .now in
+    sym (ap (every hex?) (drop-of-length-le line {i = loop .at} (c .loop-test .left))) ∙ loop .inv .1
 
 pub all-hex-spec : {M : Type 1} → statement M
 all-hex-spec =
@@ -50,7 +67,7 @@ all-hex-spec =
     shared-slice-read-hex-value
     hex-value-requires
     returns
-    add-i
+    add-at
     loop-less
     loop-again
     returns-2)

@@ -1,4 +1,4 @@
--- `lines::line_end` meets its contract. No LF stands before i.
+-- `lines::line_end` meets its contract. No LF stands before `at`.
 use mathlib.Core.Path.{_≡_}
 use Prim.Native.Nat.{_+_, _-_, _≤_}
 use native.Mathlib.Omega.{arith}
@@ -9,10 +9,10 @@ use Rattle.lines.proofs.line_end.Statement.{statement}
 use Rattle.lines.proofs.line_end.Tie as tie
 
 abbrev Inv-loop : tie.InvT-loop
-Inv-loop s i₀ i = (i ≤ length s) × (i + line-end (drop i s) ≡ line-end s)
+Inv-loop s at₀ at = (at ≤ length s) × (at + line-end (drop at s) ≡ line-end s)
 
 abbrev μ-loop : tie.MeasureT-loop
-μ-loop s i₀ i = length s - i
+μ-loop s at₀ at = length s - at
 
 loop-holds : tie.Need-loop-holds Inv-loop μ-loop
 loop-holds c = (omega arith, omega arith)
@@ -21,19 +21,29 @@ shared-slice-read-if1 : tie.Need-shared-slice-read-if1 Inv-loop μ-loop
 shared-slice-read-if1 c = omega arith
 
 returns : tie.Need-returns Inv-loop μ-loop
-returns c = omega (arith, c .before .before .before .loop .inv .1, end-here (c .before .before .before .before .args .s .now) (c .before .before .before .loop .i) (c .before .before .loop-test .taken) (c .if1 .taken))
+returns c =
+    let at-test = c .before .before in
+    let loop = at-test .before .loop in
+    let s = at-test .before .before .args .s .now in
+    omega (arith, loop .inv .1, end-here s (loop .at) (at-test .loop-test .taken) (c .if1 .taken))
 
-add-i : tie.Need-add-i Inv-loop μ-loop
-add-i c = omega arith
+add-at : tie.Need-add-at Inv-loop μ-loop
+add-at c = omega arith
 
 loop-less : tie.Need-loop-less Inv-loop μ-loop
 loop-less c = omega arith
 
 loop-again : tie.Need-loop-again Inv-loop μ-loop
-loop-again c = (omega arith, omega (arith, c .before .before .before .loop .inv .1, end-later (c .before .before .before .before .args .s .now) (c .before .before .before .loop .i) (c .before .before .loop-test .taken) (c .if1 .left)))
+loop-again c =
+    let at-test = c .before .before in
+    let loop = at-test .before .loop in
+    let s = at-test .before .before .args .s .now in
+    (omega arith, omega (arith, loop .inv .1, end-later s (loop .at) (at-test .loop-test .taken) (c .if1 .left)))
 
 returns-2 : tie.Need-returns-2 Inv-loop μ-loop
-returns-2 c = omega (arith, c .before .loop .inv .1, end-past (c .before .before .args .s .now) (c .before .loop .i) (c .loop-test .left))
+returns-2 c =
+    let loop = c .before .loop in
+    omega (arith, loop .inv .1, end-past (c .before .before .args .s .now) (loop .at) (c .loop-test .left))
 
 pub line-end-spec : {M : Type 1} → statement M
 line-end-spec =
@@ -44,7 +54,7 @@ line-end-spec =
     loop-holds
     shared-slice-read-if1
     returns
-    add-i
+    add-at
     loop-less
     loop-again
     returns-2)

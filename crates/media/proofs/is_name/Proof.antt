@@ -12,7 +12,7 @@ use Rattle.media.proofs.is_name.Tie as tie
 returns : tie.Need-returns
 returns c =
     let x = c .before .before .before .before .before .args in
-    let z : (x .p .start + x .p .len) - x .p .start ≡ x .p .len = omega arith in
+    let z : (x .p .start + x .p .length) - x .p .start ≡ x .p .length = omega arith in
     c .same-ignoring-case .ensures ∙ ap (λ (n : ℕ). alike (slice (x .s .now) (x .start) (x .end)) (take n (drop (x .p .start) (x .s .now)))) z
 
 pub is-name-spec : {M : Type 1} → statement M

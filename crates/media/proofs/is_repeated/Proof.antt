@@ -5,7 +5,7 @@ use borrow.Author.Needs.{needs}
 use mathlib.Core.Path.{_≡_, refl, _∙_}
 use lib.ListN.{take, drop}
 use Rattle.grammar.specs.helpers.Scans.{slice}
-use Rattle.media.specs.Grammar.{among}
+use Rattle.media.specs.Grammar.{has-name}
 use Rattle.media.specs.helpers.Places.{names-at}
 use Rattle.media.proofs.Tables.{entry-below, none-named, entry-placed, named-here, not-named}
 use Rattle.media.proofs.is_repeated.Statement.{statement}
@@ -13,7 +13,7 @@ use Rattle.media.proofs.is_repeated.Tie as tie
 
 abbrev Inv-loop : tie.InvT-loop
 Inv-loop s start end count table i₀ i =
-    among (slice s start end) (names-at s (drop i (take count table))) ≡ among (slice s start end) (names-at s (take count table))
+    has-name (slice s start end) (names-at s (drop i (take count table))) ≡ has-name (slice s start end) (names-at s (take count table))
 
 abbrev μ-loop : tie.MeasureT-loop
 μ-loop s start end count table i₀ i = count - i

@@ -1,42 +1,28 @@
 -- `media::read_parameter` meets its contract: each way out is what the grammar leaves there.
-use native.Mathlib.Omega.{arith}
 use borrow.Author.Needs.{needs}
-use mathlib.Core.Path.{_≡_, sym, subst, _∙_}
-use lib.ListN.{length, take}
+use lib.ListN.{take}
 use Rattle.octets.specs.Bytes.{blank?}
 use Rattle.octets.proofs.Tables.{blank-bits}
-use Rattle.media.specs.helpers.Scan.{StepAt}
 use Rattle.media.proofs.Scan.{steps-on, blanks-end, semicolon-not, name-begins, name-behind}
 use Rattle.media.proofs.read_parameter.Statement.{statement}
 use Rattle.media.proofs.read_parameter.Tie as tie
 
 returns : tie.Need-returns
 returns c =
-    let z = c .before .before .before .before in
-    let x = z .args in
-    let s = x .s .now in
-    let ps = take (x .found .count) (x .table) in
-    let d = c .before .before .class-end in
-    subst (StepAt s (x .found) ps (x .at)) (sym (c .stopped .ensures))
-    (blanks-end (z .pre .0) (z .pre .1) (d .result) (d .ensures blank? blank-bits) (c .before .if1 .taken))
+    let z = c .before .before .before in
+    let d = c .before .class-end in
+    blanks-end (z .pre .0) (z .pre .1) (d .result) (d .ensures blank? blank-bits) (c .if1 .taken)
 
 returns-2 : tie.Need-returns-2
 returns-2 c =
-    let z = c .before .before .before .before .before .before in
-    let x = z .args in
-    let s = x .s .now in
-    let ps = take (x .found .count) (x .table) in
-    let d = c .before .before .before .before .class-end in
-    subst (StepAt s (x .found) ps (x .at)) (sym (c .stopped2 .ensures))
-    (semicolon-not (z .pre .0) (z .pre .1) (d .result) (d .ensures blank? blank-bits) (c .before .before .before .if1 .left)
-    (c .before .if2 .taken))
+    let z = c .before .before .before .before .before in
+    let d = c .before .before .before .class-end in
+    semicolon-not (z .pre .0) (z .pre .1) (d .result) (d .ensures blank? blank-bits) (c .before .before .if1 .left)
+    (c .if2 .taken)
 
 read-attribute-requires : tie.Need-read-attribute-requires
 read-attribute-requires c κs =
     let z = c .before .before .before .before .before .before in
-    let x = z .args in
-    let s = x .s .now in
-    let ps = take (x .found .count) (x .table) in
     let d = c .before .before .before .before .class-end in
     name-begins (z .pre .0) (z .pre .1) (d .result) (d .ensures blank? blank-bits) (c .before .before .before .if1 .left) (c .before .if2 .left)
     (c .class-end2 .result) (c .class-end2 .ensures blank? blank-bits)
@@ -58,10 +44,8 @@ read-parameter-spec =
     tie.close
     (tie.spec
     (λ c κs. search needs)
-    (λ c κs. search needs)
     returns
     (λ c. search needs)
-    (λ c κs. search needs)
     returns-2
     (λ c. search needs)
     (λ c κs. search needs)

@@ -1,40 +1,27 @@
 -- `media::read_value` meets its contract: a quoted string, or a token.
-use Prim.Native.Nat.{ℕ}
 use native.Mathlib.Omega.{arith}
 use borrow.Author.Needs.{needs}
-use mathlib.Core.Path.{_≡_, sym, ap, subst, _∙_}
-use Rattle.grammar.specs.Reading.{refused}
+use mathlib.Core.Path.{sym, _∙_}
 use Rattle.octets.specs.Bytes.{token?}
-use Rattle.octets.proofs.Runs.{run-is}
 use Rattle.octets.proofs.Tables.{token-bits}
-use Rattle.media.specs.helpers.Scan.{StepAt}
 use Rattle.media.proofs.Scan.{value-cut-off, token-none, token-read}
 use Rattle.media.proofs.read_value.Statement.{statement}
 use Rattle.media.proofs.read_value.Tie as tie
 
 returns : tie.Need-returns
-returns c = λ m ps x.
-    let z = c .before .before .before in
-    let s = z .args .s .now in
-    subst (StepAt s m ps (z .args .equals)) (sym (c .stopped .ensures)) (value-cut-off x (c .before .if1 .taken))
+returns c = λ m ps x. value-cut-off x (c .if1 .taken)
 
 returns-3 : tie.Need-returns-3
 returns-3 c = λ m ps x.
-    let z = c .before .before .before .before .before .before .before in
-    let s = z .args .s .now in
-    let e = c .before .before .class-end .ensures token? token-bits in
-    subst (StepAt s m ps (z .args .equals)) (sym (c .stopped2 .ensures))
-    (token-none x (c .before .before .before .before .before .if1 .left) (c .before .before .before .if2 .left)
-    (sym e ∙ c .before .if3 .taken))
+    let e = c .before .class-end .ensures token? token-bits in
+    token-none x (c .before .before .before .before .if1 .left) (c .before .before .if2 .left)
+    (sym e ∙ c .if3 .taken)
 
-sub-t12 : tie.Need-sub-t12
-sub-t12 c =
-    let z = c .before .before .before .before .before .before in
-    omega (arith, c .before .class-end .ensures token? token-bits)
+sub-t14 : tie.Need-sub-t14
+sub-t14 c = omega (arith, c .before .class-end .ensures token? token-bits)
 
 returns-4 : tie.Need-returns-4
 returns-4 c = λ m ps x.
-    let z = c .before .before .before .before .before .before in
     let e = c .before .class-end in
     token-read x (c .before .before .before .before .if1 .left) (c .before .before .if2 .left)
     (e .result) (e .ensures token? token-bits) (c .if3 .left)
@@ -44,14 +31,12 @@ read-value-spec =
     tie.close
     (tie.spec
     (λ c. search needs)
-    (λ c κs. search needs)
     returns
     (λ c. search needs)
     (λ c κs. search needs)
     (λ c. search needs)
     (λ c κs. search needs)
-    (λ c κs. search needs)
     returns-3
     (λ c. search needs)
-    sub-t12
+    sub-t14
     returns-4)

@@ -1,21 +1,28 @@
 -- For the contracts of the reader's helpers.
 use Prim.Native.Nat.{ℕ, _+_, _≤_, _<_}
+use Prim.Native.Char.{code}
 use mathlib.Core.Path.{_≡_}
 use mathlib.Core.Bool.{false}
 use mathlib.Core.List.{List, [], _∷_, _++_}
 use lib.ListN.{length, getD}
-use Rattle.grammar.specs.Grammar.{Part, Grammar, byte, _⨾_, _∣_, part}
-use Rattle.grammar.specs.Reading.{refused}
+use Rattle.grammar.specs.Grammar.{Part, byte, _⨾_, part}
+use Rattle.grammar.specs.Reading.{value-limit, refused}
 use Rattle.grammar.specs.helpers.Judge.{header}
 use Rattle.grammar.specs.helpers.Checks.{ahead}
 use Rattle.grammar.specs.helpers.Scans.{slice, from}
+use Rattle.octets.specs.Bytes.{token?}
+use Rattle.octets.specs.Classes.{token}
+use Rattle.scans.specs.helpers.Runs.{run-end}
 use Rattle.media.specs.declared.MediaType.{MediaType}
 use Rattle.media.specs.declared.Parameter.{Parameter}
+use Rattle.media.specs.declared.Outcome.{Outcome}
+use Rattle.media.specs.declared.Outcome.the-variants as O
 use Rattle.media.specs.declared.Step.{Step}
 use Rattle.media.specs.declared.Step.the-variants.{Passed, Stopped}
-use Rattle.media.specs.Grammar.{Name, attribute, EQUALS, token, argument, parameters}
+use Rattle.media.specs.Grammar.{Name, attribute, EQUALS, argument, parameters}
 use Rattle.media.specs.Grammar.{attributes, repeats, entries, kind, parameter-limit, rules}
-use Rattle.media.specs.helpers.Places.{names-at, Placed}
+use Rattle.media.specs.Places.{Placed}
+use Rattle.media.specs.helpers.Places.{names-at}
 
 abbrev pub texts : List (Part Name) → List (List ℕ)
 texts [] = []
@@ -24,9 +31,9 @@ texts (c ∷ cs) = c .text ∷ texts cs
 abbrev pub counted : MediaType → ℕ → MediaType
 counted m n = record {
   «type_start» = m .«type_start»;
-  «type_len» = m .«type_len»;
+  «type_length» = m .«type_length»;
   «subtype_start» = m .«subtype_start»;
-  «subtype_len» = m .«subtype_len»;
+  «subtype_length» = m .«subtype_length»;
   count = n;
 }
 
@@ -52,6 +59,17 @@ module _ (s : List ℕ) where
     pub before : Before m ps i
     pub reads : header rules s ≡ from rules s (ahead (parts before) parameters) i
 
+  -- a type stands before e, in a text that is not too long
+  pub record TypeAt (e : ℕ) : Type 0 where
+    pub short : length s ≤ value-limit
+    pub ends : e ≡ run-end token? s 0
+    pub some : e ≡ 0 → ⊥
+
+  -- type and subtype were read, or the text is refused
+  abbrev pub NamesRead : Outcome → Type 0
+  NamesRead (O.Read m) = Found m [] (m .«subtype_start» + m .«subtype_length»)
+  NamesRead (O.Refused x) = header rules s ≡ refused (x .number) (x .place)
+
   -- the same where an attribute has to begin
   pub record NameAt (m : MediaType) (ps : List Parameter) (i : ℕ) : Type 0 where
     pub before : Before m ps i
@@ -72,7 +90,7 @@ module _ (s : List ℕ) where
   -- a quote stands at i
   pub record QuoteAt (i : ℕ) : Type 0 where
     pub at : i < length s
-    pub quote : getD s i 0 ≡ 34
+    pub quote : getD s i 0 ≡ code "\""
 
   -- behind a parameter, one more was read; a step that stopped has the answer
   pub record Read (m : MediaType) (ps : List Parameter) (i : ℕ) (p : Parameter) (e : ℕ) : Type 0 where

@@ -6,7 +6,8 @@ use borrow.Author.Needs.{needs}
 use mathlib.Core.Path.{sym, subst}
 use lib.ListN.{length}
 use Rattle.products.specs.helpers.Scan.{CommentAt, ContentAt, PlainAt, Passed}
-use Rattle.products.proofs.Comments.{none-allowed, some-refused, some-reads, passed-none, passed-plain, passed-refused, passed-cut-off, passed-comment, passed-comment-refused}
+use Rattle.products.proofs.Comments.{none-allowed, some-refused, some-reads, passed-none, passed-plain, passed-refused}
+use Rattle.products.proofs.Comments.{passed-cut-off, passed-comment, passed-comment-refused}
 use borrow.Fn.Kinds.{In}
 use borrow.Fn.PlainCycle.{Measures, is, falls, and}
 use Rattle.products.proofs.read_comment.Reads as read-comment
@@ -15,7 +16,7 @@ use Rattle.products.proofs.+read_comment+read_content.Lts-read_comment 
 use Rattle.products.proofs.read_content.Reads as read-content
 use Rattle.products.proofs.read_content.Kinds as read-content-kinds
 use Rattle.products.proofs.+read_comment+read_content.Lts-read_content as read-content-lts
-use Rattle.products.proofs.larger.Reads as larger-reads
+use Rattle.products.proofs.max.Reads as max-reads
 use Rattle.products.proofs.read_plain.Reads as read-plain-reads
 use Rattle.products.proofs.+read_comment+read_content.{statement}
 use Rattle.products.proofs.+read_comment+read_content.Tie.{close}
@@ -56,7 +57,7 @@ abbrev comment-calls : ℕ → read-comment-lts.Claims
 comment-calls t = (read-content-below t, read-content.Post)
 
 abbrev content-calls : ℕ → read-content-lts.Claims
-content-calls t = (read-comment-below t, read-comment.Post, larger-reads.Asked, larger-reads.Learnt, read-plain-reads.Asked, read-plain-reads.Learnt)
+content-calls t = (read-comment-below t, read-comment.Post, max-reads.Asked, max-reads.Learnt, read-plain-reads.Asked, read-plain-reads.Learnt)
 
 read-comment-returns : (t : ℕ) → read-comment-lts.Need-returns (comment-calls t) (read-comment-at t) read-comment.Post
 read-comment-returns t c =
@@ -128,8 +129,10 @@ read-content-returns-2 : (t : ℕ) → read-content-lts.Need-returns-2 (content-
 read-content-returns-2 t c =
     let z = c .before .before .before .before .before .before .before .before .before .before .before in
     let s = z .args .s .now in
-    let l = c .before .before .before .before .before .before .before .before .before .loop in
-    passed-comment-refused s (z .args .from) (z .args .allowed) (l .i) (l .levels) (l .inv) (c .before .before .before .before .before .before .before .before .loop-test .taken) (c .before .before .before .before .if2 .taken) _ _
+    let d = c .before .before .before .before in
+    let e = d .before .before .before .before in
+    let l = e .before .loop in
+    passed-comment-refused s (z .args .from) (z .args .allowed) (l .i) (l .levels) (l .inv) (e .loop-test .taken) (d .if2 .taken) _ _
     (subst (CommentAt s (l .i) (z .args .allowed)) (c .before .refusal .given .1) (c .before .before .before .read-comment .ensures))
 
 read-content-loop-less : (t : ℕ) → read-content-lts.Need-loop-less (content-calls t) (read-content-at t) read-content.Post read-content-Inv-loop read-content-μ-loop
@@ -144,10 +147,13 @@ read-content-loop-again : (t : ℕ) → read-content-lts.Need-loop-again (conten
 read-content-loop-again t c =
     let z = c .before .before .before .before .before .before .before .before .before .before .before .before in
     let s = z .args .s .now in
-    let l = c .before .before .before .before .before .before .before .before .before .before .loop in
-    let w = subst (CommentAt s (l .i) (z .args .allowed)) (c .before .before .end .given .1) (c .before .before .before .before .read-comment .ensures) in
-    subst (Passed s (z .args .from) (z .args .allowed) (c .before .before .end .given .0 .0)) (sym (c .larger .ensures))
-    (passed-comment s (z .args .from) (z .args .allowed) (l .i) (l .levels) (l .inv) (c .before .before .before .before .before .before .before .before .before .loop-test .taken) (c .before .before .before .before .before .if2 .taken) _ _ w)
+    let d = c .before .before .before .before .before in
+    let e = d .before .before .before .before in
+    let l = e .before .loop in
+    let f = c .before .before .end in
+    let w = subst (CommentAt s (l .i) (z .args .allowed)) (f .given .1) (c .before .before .before .before .read-comment .ensures) in
+    subst (Passed s (z .args .from) (z .args .allowed) (f .given .0 .0)) (sym (c .max .ensures))
+    (passed-comment s (z .args .from) (z .args .allowed) (l .i) (l .levels) (l .inv) (e .loop-test .taken) (d .if2 .taken) _ _ w)
 
 read-content-read-plain-requires : (t : ℕ) → read-content-lts.Need-read-plain-requires (content-calls t) (read-content-at t) read-content.Post read-content-Inv-loop read-content-μ-loop
 read-content-read-plain-requires t c κs =

@@ -45,7 +45,7 @@ returns-4 c =
     let i = z .args .at in
     let f = z .args .found in
     let w = subst (CommentAt s i 8) (c .before .before .before .end .given .1) (c .before .before .before .before .before .read-comment .ensures) in
-    subst (λ (m : ℕ). ItemRead s i (c .before .before .before .end .given .0 .0) (record { products = f .products; comments = f .comments + 1; deepest = m })) (sym (c .larger .ensures))
+    subst (λ (m : ℕ). ItemRead s i (c .before .before .before .end .given .0 .0) (record { products = f .products; comments = f .comments + 1; deepest = m })) (sym (c .max .ensures))
     (outer-reads s i f (z .pre) (c .before .before .before .before .before .before .before .before .if1 .left) (c .before .before .before .before .before .before .if2 .left) _ _ w)
 
 pub read-item-spec : {M : Type 1} → statement M

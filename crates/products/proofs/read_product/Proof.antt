@@ -5,8 +5,8 @@ use borrow.Author.Needs.{needs}
 use mathlib.Core.Path.{_≡_, sym, ap, subst, _∙_}
 use lib.ListN.{length, getD}
 use Rattle.octets.specs.Bytes.{token?}
-use Rattle.octets.specs.helpers.Runs.{run-end}
 use Rattle.octets.proofs.Tables.{token-bits}
+use Rattle.scans.specs.helpers.Runs.{run-end}
 use Rattle.grammar.specs.Reading.{refused}
 use Rattle.products.specs.helpers.Scan.{ItemRead}
 use Rattle.products.proofs.Items.{with-product, no-product, bare-product, no-second, slashed-product}

@@ -1,5 +1,6 @@
 -- For the contracts of the reader's helpers: what each of them finds at a place, against what is left of the grammar there.
 use Prim.Native.Nat.{ℕ, zero, suc, _+_, _≤_, _<_}
+use Prim.Native.Char.{code}
 use mathlib.Core.Path.{_≡_}
 use mathlib.Core.Bool.{true}
 use mathlib.Core.List.{List, [], _∷_, _++_}
@@ -8,11 +9,12 @@ use Rattle.grammar.specs.Grammar.{Part, Grammar, empty, nest, just}
 use Rattle.grammar.specs.helpers.Derivative.{live, then}
 use Rattle.grammar.specs.Reading as G
 use Rattle.grammar.specs.Reading.{Verdict, refused}
+use Rattle.grammar.specs.Refusals.{COMMENT_TOO_DEEP}
 use Rattle.grammar.specs.helpers.Judge.{held, header}
 use Rattle.grammar.specs.helpers.Checks.{ahead}
 use Rattle.grammar.specs.helpers.Scans.{from}
 use Rattle.octets.specs.Bytes.{blank?}
-use Rattle.octets.specs.helpers.Runs.{run-end}
+use Rattle.scans.specs.helpers.Runs.{run-end}
 use Rattle.products.specs.declared.Products.{Products}
 use Rattle.products.specs.declared.Comment.{Comment}
 use Rattle.products.specs.declared.Comment.the-variants as C
@@ -24,14 +26,14 @@ use Rattle.products.specs.Grammar.{content, products, level-limit, value
 -- n levels of comments are open, and k follows the outermost one
 abbrev pub within : Grammar Name → ℕ → Grammar Name
 within k zero = k
-within k (suc n) = then (nest (just 40 tt) (just 41 tt) opened closed content empty n) k
+within k (suc n) = then (nest (just (code "(") tt) (just (code ")") tt) opened closed content empty n) k
 
 -- the parts of whole comments, and of text and pairs, where a level is open: h levels deep
 pub record Enclosed (ps : List (Part Name)) (h : ℕ) : Type 0 where
   pub even : (n : ℕ) → levels (suc n) ps ≡ suc n
   pub inner : (n : ℕ) → outermost (suc n) ps ≡ 0
   pub depth : (n : ℕ) → deepest (suc n) ps ≡ suc n + h
-  pub plain : product-count ps ≡ 0
+  pub no-products : product-count ps ≡ 0
 
 -- the parts of one comment: h levels deep
 pub record Whole (ps : List (Part Name)) (h : ℕ) : Type 0 where
@@ -39,7 +41,7 @@ pub record Whole (ps : List (Part Name)) (h : ℕ) : Type 0 where
   pub first : outermost 0 ps ≡ 1
   pub inner : (n : ℕ) → outermost (suc n) ps ≡ 0
   pub depth : (n : ℕ) → deepest n ps ≡ n + h
-  pub plain : product-count ps ≡ 0
+  pub no-products : product-count ps ≡ 0
 
 -- where n levels are open, and a more may be opened: the parts so far, and what follows the outermost comment
 pub record Place (n a : ℕ) : Type 0 where
@@ -60,7 +62,7 @@ module _ (s : List ℕ) where
 
   -- what the judgement comes to at a `(` that stands at i
   abbrev pub entered : (i n a : ℕ) → Place n a → Verdict Products
-  entered i n zero p = refused 12 i
+  entered i n zero p = refused COMMENT_TOO_DEEP i
   entered i n (suc a) p = from rules s (ahead (p .parts ++ opening i ∷ []) (within (p .next) (suc n))) (i + 1)
 
   -- the comment that opens at i ends before e
@@ -83,18 +85,19 @@ module _ (s : List ℕ) where
     pub shallow : h ≤ a
     pub ordered : i ≤ e
     pub inside : e ≤ length s
-    pub reads : (n : ℕ) (p : Place (suc n) a)
-        → from rules s (ahead (p .parts) (within (p .next) (suc n))) i ≡ from rules s (ahead (p .parts ++ parts) (within (p .next) (suc n))) e
+    pub reads : (n : ℕ) (p : Place (suc n) a) → from rules s (ahead (p .parts) (within (p .next) (suc n))) i
+        ≡ from rules s (ahead (p .parts ++ parts) (within (p .next) (suc n))) e
 
   -- the content that stands at i ends at e, where its `)` stands
   pub record ContentRead (i a e h : ℕ) : Type 0 where
     pub passed : Passed i a e h
     pub within-it : e < length s
-    pub ends : getD s e 0 ≡ 41
+    pub ends : getD s e 0 ≡ code ")"
 
   -- what is refused where at least one level is open
   abbrev pub RefusedWithin : (i a number place : ℕ) → Type 0
-  RefusedWithin i a number place = (n : ℕ) (p : Place (suc n) a) → from rules s (ahead (p .parts) (within (p .next) (suc n))) i ≡ refused number place
+  RefusedWithin i a number place =
+      (n : ℕ) (p : Place (suc n) a) → from rules s (ahead (p .parts) (within (p .next) (suc n))) i ≡ refused number place
 
   abbrev pub ContentAt : (i a : ℕ) → Comment → Type 0
   ContentAt i a (C.Closed e h) = ContentRead i a e h
@@ -103,8 +106,8 @@ module _ (s : List ℕ) where
   -- at i stands neither a `(` nor a `)`
   pub record Inside (i : ℕ) : Type 0 where
     pub at : i < length s
-    pub no-open : getD s i 0 ≡ 40 → ⊥
-    pub no-close : getD s i 0 ≡ 41 → ⊥
+    pub no-open : getD s i 0 ≡ code "(" → ⊥
+    pub no-close : getD s i 0 ≡ code ")" → ⊥
 
   -- text or a pair stands between i and e
   pub record PlainRead (i e : ℕ) : Type 0 where
@@ -133,7 +136,7 @@ module _ (s : List ℕ) where
   pub record NoComment (i : ℕ) (f : Products) : Type 0 where
     pub found : Found i f
     pub at : i < length s
-    pub no-open : getD s i 0 ≡ 40 → ⊥
+    pub no-open : getD s i 0 ≡ code "(" → ⊥
 
   -- an item ends before e: it is the last one, or others follow, behind blanks if there are any
   pub record ItemRead (i e : ℕ) (f : Products) : Type 0 where

@@ -9,12 +9,14 @@ use Rattle.qvalue.proofs.digit_at.Tie as tie
 sub-result : tie.Need-sub-result
 sub-result c =
     let z = c .before .before in
-    omega (arith, digit-small (getD (z .args .s .now) (z .args .i) 48) (z .pre), any-default (z .args .s .now) (z .args .i) (c .before .if1 .taken))
+    let e = any-default (z .args .s .now) (z .args .i) (c .before .if1 .taken) in
+    omega (arith, digit-small (getD (z .args .s .now) (z .args .i) 48) (z .pre))
 
 cast-result : tie.Need-cast-result
 cast-result c =
     let z = c .before .before in
-    omega (arith, digit-small (getD (z .args .s .now) (z .args .i) 48) (z .pre), any-default (z .args .s .now) (z .args .i) (c .before .if1 .taken))
+    let e = any-default (z .args .s .now) (z .args .i) (c .before .if1 .taken) in
+    omega (arith, digit-small (getD (z .args .s .now) (z .args .i) 48) (z .pre))
 
 returns : tie.Need-returns
 returns c =

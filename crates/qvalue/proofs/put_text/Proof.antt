@@ -23,9 +23,11 @@ returns c =
     let d = c .before .before .before .before .before in
     let z = d .before .before .before .before .before in
     front-put (z .args .q) (z .args .len) (z .args .out .now) (p .last .1 .0)
-    (d .before .before .before .last-digit .result) (d .before .before .last-digit2 .result) (d .before .last-digit3 .result) (d .last-digit4 .result)
+    (d .before .before .before .last-digit .result) (d .before .before .last-digit2 .result) (d .before .last-digit3 .result)
+    (d .last-digit4 .result)
     (z .pre .0) (z .pre .1)
-    (d .before .before .before .last-digit .ensures) (d .before .before .last-digit2 .ensures) (d .before .last-digit3 .ensures) (d .last-digit4 .ensures)
+    (d .before .before .before .last-digit .ensures) (d .before .before .last-digit2 .ensures) (d .before .last-digit3 .ensures)
+    (d .last-digit4 .ensures)
     (p .ensures .1)
 
 pub put-text-spec : {M : Type 1} → statement M

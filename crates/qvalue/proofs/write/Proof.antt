@@ -13,7 +13,8 @@ returns : tie.Need-returns
 returns c =
     let x = c .before .before .before .args in
     let q = x .thousandths in
-    refuses-argument (ltb largest q) (qvalue-text q) (x .out .now) (c .unwritten .result) (c .unwritten .ensures) (lt-ltb largest q (c .before .if1 .taken))
+    refuses-argument (ltb largest q) (qvalue-text q) (x .out .now) (c .unwritten .result) (c .unwritten .ensures)
+    (lt-ltb largest q (c .before .if1 .taken))
 
 returns-2 : tie.Need-returns-2
 returns-2 c =
@@ -28,7 +29,8 @@ returns-3 c =
     let q = x .thousandths in
     let n = c .before .before .before .before .before .text-len in
     writes-all (ltb largest q) (qvalue-text q) (x .out .now) (n .result) (c .before .before .put-text .last .1 .1 .0) (n .ensures)
-    (le-ltb largest q (c .before .before .before .before .before .before .if1 .left)) (omega (arith, n .ensures, c .before .before .before .before .if2 .left))
+    (le-ltb largest q (c .before .before .before .before .before .before .if1 .left))
+    (omega (arith, n .ensures, c .before .before .before .before .if2 .left))
     (c .before .before .put-text .ensures)
 
 pub write-spec : {M : Type 1} → statement M

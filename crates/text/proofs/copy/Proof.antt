@@ -13,29 +13,29 @@ Inv-loop src dst₀ i₀ dst i = Front dst₀ src dst i
 abbrev μ-loop : tie.MeasureT-loop
 μ-loop src dst₀ i₀ dst i = length src - i
 
-loop-holds : tie.Need-loop-holds Inv-loop μ-loop
-loop-holds c = search needs
-
-shared-slice-read-dst : tie.Need-shared-slice-read-dst Inv-loop μ-loop
-shared-slice-read-dst c = search needs
-
 slice-write-dst : tie.Need-slice-write-dst Inv-loop μ-loop
-slice-write-dst c = omega (arith, front-length (c .before .before .before .args .dst .now) (c .before .before .before .args .src .now) (c .before .before .loop .dst) (c .before .before .loop .i) (c .before .before .before .pre) (c .before .before .loop .inv))
-
-add-i : tie.Need-add-i Inv-loop μ-loop
-add-i c = search needs
-
-loop-less : tie.Need-loop-less Inv-loop μ-loop
-loop-less c = search needs
+slice-write-dst c =
+    let z = c .before .before .before in
+    let l = c .before .before .loop in
+    omega (arith, front-length (z .args .dst .now) (z .args .src .now) (l .dst) (l .i) (z .pre) (l .inv))
 
 loop-again : tie.Need-loop-again Inv-loop μ-loop
-loop-again c = front-on (c .before .before .before .args .dst .now) (c .before .before .before .args .src .now) (c .before .before .loop .dst) (c .before .before .loop .i) (c .before .before .before .pre) (c .before .before .loop .inv) (c .before .loop-test .taken)
+loop-again c =
+    let z = c .before .before .before in
+    let l = c .before .before .loop in
+    front-on (z .args .dst .now) (z .args .src .now) (l .dst) (l .i) (z .pre) (l .inv) (c .before .loop-test .taken)
 
 same-length : tie.Need-same-length Inv-loop μ-loop
-same-length c = front-length (c .before .before .args .dst .now) (c .before .before .args .src .now) (c .before .loop .dst) (c .before .loop .i) (c .before .before .pre) (c .before .loop .inv)
+same-length c =
+    let z = c .before .before in
+    let l = c .before .loop in
+    front-length (z .args .dst .now) (z .args .src .now) (l .dst) (l .i) (z .pre) (l .inv)
 
 returns : tie.Need-returns Inv-loop μ-loop
-returns c = front-all (c .before .before .args .dst .now) (c .before .before .args .src .now) (c .before .loop .dst) (c .before .loop .i) (c .before .before .pre) (c .before .loop .inv) (c .loop-test .left)
+returns c =
+    let z = c .before .before in
+    let l = c .before .loop in
+    front-all (z .args .dst .now) (z .args .src .now) (l .dst) (l .i) (z .pre) (l .inv) (c .loop-test .left)
 
 pub copy-spec : {M : Type 1} → statement M
 copy-spec =
@@ -43,11 +43,11 @@ copy-spec =
     (tie.spec
     Inv-loop
     μ-loop
-    loop-holds
-    shared-slice-read-dst
+    (λ c. search needs)
+    (λ c. search needs)
     slice-write-dst
-    add-i
-    loop-less
+    (λ c. search needs)
+    (λ c. search needs)
     loop-again
     same-length
     returns)

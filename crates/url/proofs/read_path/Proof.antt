@@ -11,52 +11,48 @@ use Rattle.url.proofs.Scan.{path-absent, path-not, path-breaks, path-re
 use Rattle.url.proofs.read_path.Statement.{statement}
 use Rattle.url.proofs.read_path.Tie as tie
 
-between-requires : tie.Need-between-requires
-between-requires c κs = omega (arith, c .before .pre .some)
+url-read-requires : tie.Need-url-read-requires
+url-read-requires c κs = omega (arith, c .before .before .pre .some)
 
 returns : tie.Need-returns
 returns c =
     let z = c .before .before .before in
     let x = z .args in
-    rw (c .before .between .ensures) (sym (path-absent (x .s .now) (x .host-end) (x .port) (x .at) (z .pre) (c .if1 .taken)))
+    ap verdict (c .url-read .ensures) ∙ sym (path-absent (x .s .now) (x .host-end) (x .port) (x .at) (z .pre) (c .before .if1 .taken))
 
 returns-2 : tie.Need-returns-2
 returns-2 c =
-    let z = c .before .before .before .before .before .before in
+    let z = c .before .before .before .before in
     let x = z .args in
-    ap verdict (c .refused .ensures)
-    ∙ sym (path-not (x .s .now) (x .host-end) (x .port) (x .at) (z .pre) (c .before .before .before .if1 .left) (c .before .if2 .taken))
+    sym (path-not (x .s .now) (x .host-end) (x .port) (x .at) (z .pre) (c .before .before .if1 .left) (c .if2 .taken))
 
 read-query-requires : tie.Need-read-query-requires
 read-query-requires c κs =
     let d = c .before .before .before in
-    let z = d .before .before .before .before .before .before in
+    let z = d .before .before .before .before .before in
     let x = z .args in
     let w = subst (Found path? (x .s .now) (x .at + 1)) (c .before .ending2 .given .1) (d .text-end .ensures path? path-bits) in
     path-reads (x .s .now) (x .host-end) (x .port) (x .at) (z .pre) (d .before .before .before .if1 .left) (d .before .if2 .left) _ w
 
 returns-3 : tie.Need-returns-3
 returns-3 c =
-    let d = c .before .before .before .before in
-    let z = d .before .before .before .before .before .before in
+    let d = c .before .before .before in
+    let z = d .before .before .before .before .before in
     let x = z .args in
-    let w = subst (Found path? (x .s .now) (x .at + 1)) (c .before .before .ending .given .1) (d .text-end .ensures path? path-bits) in
-    ap verdict (c .refused2 .ensures)
-    ∙ sym (path-breaks (x .s .now) (x .host-end) (x .port) (x .at) (z .pre) (d .before .before .before .if1 .left) (d .before .if2 .left) _ w)
+    let w = subst (Found path? (x .s .now) (x .at + 1)) (c .before .ending .given .1) (d .text-end .ensures path? path-bits) in
+    sym (path-breaks (x .s .now) (x .host-end) (x .port) (x .at) (z .pre) (d .before .before .before .if1 .left) (d .before .if2 .left) _ w)
 
 pub read-path-spec : {M : Type 1} → statement M
 read-path-spec =
     tie.close
     (tie.spec
-    between-requires
+    url-read-requires
     returns
     (λ c. search needs)
-    (λ c κs. search needs)
     returns-2
     (λ c. search needs)
     (λ c κs. search needs)
     (λ c. search needs)
-    (λ c κs. search needs)
     (λ c. search needs)
     read-query-requires
     returns-3

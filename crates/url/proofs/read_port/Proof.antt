@@ -1,9 +1,8 @@
 -- `url::read_port` meets its contract: each way out is what the grammar leaves there.
 use native.Mathlib.Omega.{arith}
 use borrow.Author.Needs.{needs}
-use mathlib.Core.Path.{sym, ap, _∙_}
+use mathlib.Core.Path.{sym, _∙_}
 use Rattle.scans.proofs.Scans.{is-missing}
-use Rattle.url.specs.Reading.{verdict}
 use Rattle.url.proofs.Scan.{port-absent, port-passes, port-small, port-reads, port-empty}
 use Rattle.url.proofs.read_port.Statement.{statement}
 use Rattle.url.proofs.read_port.Tie as tie
@@ -20,35 +19,38 @@ read-path-requires-2 c κs =
 
 cast-read-path : tie.Need-cast-read-path
 cast-read-path c =
-    let z = c .before .before .before .before .before .before .before .before in
+    let d = c .before .before .before in
+    let z = d .before .before .before .before .before in
     let x = z .args in
     let v = c .before .value .given in
-    let e = sym (c .before .before .before .read-decimal .ensures) ∙ v .1 in
-    omega (arith, port-small (x .s .now) (x .host-end) (z .pre) (c .before .before .before .before .before .before .if1 .left) (c .before .before .before .before .if2 .left) (v .0 .0) (v .0 .1 .0) e)
+    let e = sym (d .read-decimal .ensures) ∙ v .1 in
+    let small = port-small (x .s .now) (x .host-end) (z .pre) (d .before .before .before .if1 .left) (d .before .if2 .left) in
+    omega (arith, small (v .0 .0) (v .0 .1 .0) e)
 
 read-path-requires-3 : tie.Need-read-path-requires-3
 read-path-requires-3 c κs =
-    let z = c .before .before .before .before .before .before .before .before in
+    let d = c .before .before .before in
+    let z = d .before .before .before .before .before in
     let x = z .args in
     let v = c .before .value .given in
-    let e = sym (c .before .before .before .read-decimal .ensures) ∙ v .1 in
-    port-reads (x .s .now) (x .host-end) (z .pre) (c .before .before .before .before .before .before .if1 .left) (c .before .before .before .before .if2 .left) (v .0 .0) (v .0 .1 .0) e
+    let e = sym (d .read-decimal .ensures) ∙ v .1 in
+    port-reads (x .s .now) (x .host-end) (z .pre) (d .before .before .before .if1 .left) (d .before .if2 .left) (v .0 .0) (v .0 .1 .0) e
 
 read-path-requires-4 : tie.Need-read-path-requires-4
 read-path-requires-4 c κs =
-    let z = c .before .before .before .before .before .before .before in
+    let d = c .before .before in
+    let z = d .before .before .before .before .before in
     let x = z .args in
-    let d = c .before .before .read-decimal in
-    let e = sym (d .ensures) ∙ is-missing (d .result) (c .before .match .keys3) in
-    port-empty (x .s .now) (x .host-end) (z .pre) (c .before .before .before .before .before .if1 .left) (c .before .before .before .if2 .left) e
+    let e = sym (d .read-decimal .ensures) ∙ is-missing (d .read-decimal .result) (c .before .match .keys3) in
+    port-empty (x .s .now) (x .host-end) (z .pre) (d .before .before .before .if1 .left) (d .before .if2 .left) e
 
 returns-4 : tie.Need-returns-4
 returns-4 c =
-    let z = c .before .before .before .before .before .before .before .before .before in
+    let d = c .before .before .before in
+    let z = d .before .before .before .before .before in
     let x = z .args in
-    let e = sym (c .before .before .before .before .read-decimal .ensures) ∙ c .before .before .place .given .1 in
-    ap verdict (c .refused .ensures)
-    ∙ sym (port-passes (x .s .now) (x .host-end) (z .pre) (c .before .before .before .before .before .before .before .if1 .left) (c .before .before .before .before .before .if2 .left) _ _ e)
+    let e = sym (d .read-decimal .ensures) ∙ c .before .place .given .1 in
+    sym (port-passes (x .s .now) (x .host-end) (z .pre) (d .before .before .before .if1 .left) (d .before .if2 .left) _ _ e)
 
 pub read-port-spec : {M : Type 1} → statement M
 read-port-spec =
@@ -65,7 +67,6 @@ read-port-spec =
     cast-read-path
     read-path-requires-3
     (λ c. search needs)
-    (λ c κs. search needs)
     (λ c. search needs)
     (λ c. search needs)
     read-path-requires-4

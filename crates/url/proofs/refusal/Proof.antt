@@ -1,7 +1,7 @@
 -- `url::refusal` meets its contract.
 use borrow.Author.Needs.{needs}
 use mathlib.Core.Path.{sym, ap}
-use Rattle.url.specs.Reading.{refusal-of}
+use Rattle.url.specs.helpers.Scan.{refusal-of}
 use Rattle.url.proofs.refusal.Statement.{statement}
 use Rattle.url.proofs.refusal.Tie as tie
 

@@ -10,32 +10,39 @@ returns : tie.Need-returns
 returns c =
     let d = c .before in
     let x = d .before .before .before .before .before .before .before .args in
-    let h = host-compared (x .a .now) (x .b .now) (x .u) (x .v) _ _ (d .same-ignoring-case .result) (d .before .before .part .ensures) (d .before .part2 .ensures) (d .same-ignoring-case .ensures) in
-    by-host (x .a .now) (x .b .now) (x .u) (x .v) (h ∙ not-true (d .same-ignoring-case .result) (c .if1 .taken))
+    let f = d .same-ignoring-case in
+    let h = host-compared (x .a .now) (x .b .now) (x .u) (x .v) _ _ (f .result) (d .before .before .part .ensures) (d .before .part2 .ensures) (f .ensures) in
+    by-host (x .a .now) (x .b .now) (x .u) (x .v) (h ∙ not-true (f .result) (c .if1 .taken))
 
 returns-2 : tie.Need-returns-2
 returns-2 c =
     let d = c .before .before .before .before in
     let x = d .before .before .before .before .before .before .before .args in
-    let h = host-compared (x .a .now) (x .b .now) (x .u) (x .v) _ _ (d .same-ignoring-case .result) (d .before .before .part .ensures) (d .before .part2 .ensures) (d .same-ignoring-case .ensures) in
-    by-port (x .a .now) (x .b .now) (x .u) (x .v) (h ∙ not-false (d .same-ignoring-case .result) (c .before .before .before .if1 .left)) (c .if2 .taken)
+    let f = d .same-ignoring-case in
+    let h = host-compared (x .a .now) (x .b .now) (x .u) (x .v) _ _ (f .result) (d .before .before .part .ensures) (d .before .part2 .ensures) (f .ensures) in
+    by-port (x .a .now) (x .b .now) (x .u) (x .v) (h ∙ not-false (f .result) (c .before .before .before .if1 .left)) (c .if2 .taken)
 
 returns-3 : tie.Need-returns-3
 returns-3 c =
     let d = c .before .before .before .before .before .before in
     let x = d .before .before .before .before .before .before .before .args in
-    let h = host-compared (x .a .now) (x .b .now) (x .u) (x .v) _ _ (d .same-ignoring-case .result) (d .before .before .part .ensures) (d .before .part2 .ensures) (d .same-ignoring-case .ensures) in
-    by-path (x .a .now) (x .b .now) (x .u) (x .v) (h ∙ not-false (d .same-ignoring-case .result) (c .before .before .before .before .before .if1 .left)) (c .before .before .if2 .left)
+    let f = d .same-ignoring-case in
+    let h = host-compared (x .a .now) (x .b .now) (x .u) (x .v) _ _ (f .result) (d .before .before .part .ensures) (d .before .part2 .ensures) (f .ensures) in
+    let g = c .before .before in
+    by-path (x .a .now) (x .b .now) (x .u) (x .v) (h ∙ not-false (f .result) (g .before .before .before .if1 .left)) (g .if2 .left)
     (sym (c .before .same-path .ensures) ∙ not-true (c .before .same-path .result) (c .if3 .taken))
 
 returns-4 : tie.Need-returns-4
 returns-4 c =
     let d = c .before .before .before .before .before .before .before in
     let x = d .before .before .before .before .before .before .before .args in
-    let h = host-compared (x .a .now) (x .b .now) (x .u) (x .v) _ _ (d .same-ignoring-case .result) (d .before .before .part .ensures) (d .before .part2 .ensures) (d .same-ignoring-case .ensures) in
+    let f = d .same-ignoring-case in
+    let h = host-compared (x .a .now) (x .b .now) (x .u) (x .v) _ _ (f .result) (d .before .before .part .ensures) (d .before .part2 .ensures) (f .ensures) in
+    let g = c .before .before .before in
+    let p = c .before .before .same-path in
     c .same-query .ensures
-    ∙ by-query (x .a .now) (x .b .now) (x .u) (x .v) (h ∙ not-false (d .same-ignoring-case .result) (c .before .before .before .before .before .before .if1 .left)) (c .before .before .before .if2 .left)
-    (sym (c .before .before .same-path .ensures) ∙ not-false (c .before .before .same-path .result) (c .before .if3 .left))
+    ∙ by-query (x .a .now) (x .b .now) (x .u) (x .v) (h ∙ not-false (f .result) (g .before .before .before .if1 .left)) (g .if2 .left)
+    (sym (p .ensures) ∙ not-false (p .result) (c .before .if3 .left))
 
 pub same-url-spec : {M : Type 1} → statement M
 same-url-spec =

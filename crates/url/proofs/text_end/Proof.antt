@@ -2,11 +2,11 @@
 use Prim.Native.Nat.{ℕ, _+_, _-_, _≤_}
 use native.Mathlib.Omega.{arith}
 use borrow.Author.Needs.{needs}
-use mathlib.Core.Path.{_≡_, refl, sym, ap, subst, _∙_}
+use mathlib.Core.Path.{_≡_, refl, sym, subst, _∙_}
 use mathlib.Core.Bool.{Bool}
 use lib.ListN.{length, getD}
-use Rattle.octets.specs.helpers.Runs.{Bits}
-use Rattle.url.specs.helpers.Scan.{Hexes, Stretch, empty, plain, escape}
+use Rattle.octets.specs.helpers.Bits.{Bits}
+use Rattle.url.specs.helpers.Scan.{Hexes, Stretch, empty, character, escape}
 use Rattle.url.proofs.text_end.Statement.{statement}
 use Rattle.url.proofs.text_end.Tie as tie
 
@@ -25,7 +25,7 @@ loop-again c =
     let at = c .before .before .before .loop-test .taken in
     let s = c .before .before .before .before .before .before .args .s .now in (
       omega arith,
-      λ p b. plain (l .inv .1 p b) at
+      λ p b. character (l .inv .1 p b) at
           (sym (b (getD s (l .i) 0) (omega (arith, c .before .before .shared-slice-known2 .given (l .i)))) ∙ sym (c .before .in-class .ensures) ∙ c .if1 .taken),
     )
 

@@ -1,19 +1,28 @@
--- For the contracts of the reader's helpers.
-use Prim.Native.Nat.{ℕ, _+_, _≤_, _<_}
+-- For the contracts of the reader's and the comparison's helpers.
+use Prim.Native.Nat.{ℕ, _+_, _-_, _≤_, _<_}
+use Prim.Native.Char.{code}
 use mathlib.Core.Path.{_≡_}
 use mathlib.Core.Bool.{Bool, true, false}
 use mathlib.Core.List.{List, [], _∷_, _++_}
 use mathlib.Core.Option.{Option, none, some}
-use lib.ListN.{length, getD}
+use lib.ListN.{length, getD, drop}
 use Rattle.grammar.specs.Grammar.{Part, _⨾_}
 use Rattle.grammar.specs.helpers.Checks.{ahead}
 use Rattle.grammar.specs.helpers.Judge.{header}
 use Rattle.grammar.specs.helpers.Scans.{slice, from}
 use Rattle.octets.specs.Bytes.{hex?}
 use Rattle.octets.specs.Numbers.{above?}
+use Rattle.octets.specs.declared.Refusal.{Refusal}
+use Rattle.url.specs.declared.Reading.{Reading}
+use Rattle.url.specs.declared.Reading.the-variants.{Read, Refused}
+use Rattle.url.specs.declared.Place.{Place}
+use Rattle.url.specs.declared.Unit.{Unit}
+use Rattle.url.specs.declared.Url.{Url}
 use Rattle.url.specs.declared.Ending.{Ending}
 use Rattle.url.specs.declared.Ending.the-variants.{Ends, Breaks}
-use Rattle.url.specs.Grammar.{Name, host, port, path, port-part, path-part, query-part, port-text, default-port, is-port, largest-port, rules}
+use Rattle.url.specs.Grammar.{Name, host, port, path, port-part, path-part, query-part, port-text, default-port}
+use Rattle.url.specs.Grammar.{is-port, largest-port, rules}
+use Rattle.url.specs.Meaning.{resolved}
 
 -- n hex digits stand at i; where they are fewer than two, no further one
 pub record Hexes (s : List ℕ) (i n : ℕ) : Type 0 where
@@ -25,14 +34,15 @@ pub record Hexes (s : List ℕ) (i n : ℕ) : Type 0 where
 -- from i up to e stand bytes that pass the test, and escapes
 pub data Stretch (p : ℕ → Bool) (s : List ℕ) (i : ℕ) : ℕ → Type 0 where
   empty : Stretch p s i i
-  plain : {e : ℕ} → Stretch p s i e → e < length s → p (getD s e 0) ≡ true → Stretch p s i (e + 1)
-  escape : {e : ℕ} → Stretch p s i e → e < length s → getD s e 0 ≡ 37 → Hexes s (e + 1) 2 → Stretch p s i (e + 3)
+  character : {e : ℕ} → Stretch p s i e → e < length s → p (getD s e 0) ≡ true → Stretch p s i (e + 1)
+  escape : {e : ℕ} → Stretch p s i e → e < length s → getD s e 0 ≡ code "%" → Hexes s (e + 1) 2 → Stretch p s i (e + 3)
 
 -- the stretch that stands at i ends there, or breaks off there inside an escape
 abbrev pub Found : (ℕ → Bool) → List ℕ → ℕ → Ending → Type 0
-Found p s i (Ends e) = Stretch p s i e × (e ≤ length s) × (e < length s → p (getD s e 0) ≡ false) × (e < length s → getD s e 0 ≡ 37 → ⊥)
+Found p s i (Ends e) =
+    Stretch p s i e × (e ≤ length s) × (e < length s → p (getD s e 0) ≡ false) × (e < length s → getD s e 0 ≡ code "%" → ⊥)
 Found p s i (Breaks q) =
-    (j : ℕ) × (n : ℕ) × (q ≡ (j + 1) + n) × Stretch p s i j × (j < length s) × (getD s j 0 ≡ 37) × Hexes s (j + 1) n × (n < 2)
+    (j : ℕ) × (n : ℕ) × (q ≡ (j + 1) + n) × Stretch p s i j × (j < length s) × (getD s j 0 ≡ code "%") × Hexes s (j + 1) n × (n < 2)
 
 -- the host begins behind the scheme
 abbrev pub host-start : ℕ
@@ -40,6 +50,9 @@ host-start = 7
 
 abbrev pub host-at : List ℕ → ℕ → Part Name
 host-at s e = record { label = host; start = host-start; text = slice s host-start e }
+
+abbrev pub url-with : (e n : ℕ) (p q : Place) → Url
+url-with e n p q = record { host = record { start = host-start; length = e - host-start }; port = n; path = p; query = q }
 
 -- the host stands before the place e, and the answer is what is found from there on
 pub record AfterHost (s : List ℕ) (e : ℕ) : Type 0 where
@@ -76,3 +89,16 @@ pub record BeforeQuery (s : List ℕ) (e n i f : ℕ) : Type 0 where
   pub some : i < f
   pub within : f ≤ length s
   pub reads : header rules s ≡ from rules s (ahead (heads s e (before .digits) i ++ path-at s i f ∷ []) query-part) f
+
+-- ## Comparing
+
+-- one byte of a text as it is compared, and what is left behind it
+pub record Resolves (s : List ℕ) (i : ℕ) (u : Unit) : Type 0 where
+  pub on : i < u .next
+  pub within : u .next ≤ length s
+  pub is : resolved (drop i s) ≡ u .byte ∷ resolved (drop (u .next) s)
+
+-- the refusal of a reading that was refused; no answer has the one of a reading that was not
+abbrev pub refusal-of : Reading → Refusal
+refusal-of (Read u) = record { number = 0; place = 0 }
+refusal-of (Refused r) = r

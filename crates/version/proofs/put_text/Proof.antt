@@ -14,7 +14,8 @@ returns c =
     let c₁ = c₂ .before .before .before .before .before in
     let h = c₁ .put-bytes in
     let z = c₁ .before .before .before .before in
-    text-put (z .args .v) (z .args .out .now) (h .last .1 .0) (m .last .1 .0) (p .last .1 .0) (d .last .1 .0) (h .result) (m .result) (p .result) (d .result)
+    text-put (z .args .v) (z .args .out .now) (h .last .1 .0) (m .last .1 .0) (p .last .1 .0) (d .last .1 .0) (h .result) (m .result)
+    (p .result) (d .result)
     (z .pre) (h .ensures .0) (h .ensures .1) (m .ensures .0) (m .ensures .1) (p .ensures .0) (p .ensures .1) (d .ensures .0) (d .ensures .1)
 
 pub put-text-spec : {M : Type 1} → statement M

@@ -21,10 +21,14 @@ add-result-3 : tie.Need-add-result-3
 add-result-3 c =
     let z = c .before .before .before .before in
     let w = within-both (z .args .v) (z .pre) in
-    omega (arith, few-digits (z .args .v .major) (w .0), c .before .before .decimal-width .ensures, few-digits (z .args .v .minor) (w .1), c .decimal-width2 .ensures)
+    let m = few-digits (z .args .v .major) (w .0) in
+    let n = few-digits (z .args .v .minor) (w .1) in
+    omega (arith, c .before .before .decimal-width .ensures, c .decimal-width2 .ensures)
 
 returns : tie.Need-returns
-returns c = omega (arith, text-length (c .before .before .before .before .args .v), c .before .before .decimal-width .ensures, c .decimal-width2 .ensures)
+returns c =
+    let z = c .before .before .before .before in
+    omega (arith, text-length (z .args .v), c .before .before .decimal-width .ensures, c .decimal-width2 .ensures)
 
 pub text-len-spec : {M : Type 1} → statement M
 text-len-spec =

@@ -1,5 +1,6 @@
 -- For the contracts of the reader's helpers.
 use Prim.Native.Nat.{ℕ, _≤_}
+use Prim.Native.Char.{code}
 use mathlib.Core.Path.{_≡_}
 use mathlib.Core.Bool.{false}
 use mathlib.Core.List.{List, [], _∷_}
@@ -15,7 +16,7 @@ use Rattle.version.specs.Grammar.{Name, major, minor, largest, rules}
 
 -- what follows the major number
 abbrev pub point-and-minor : Grammar Name
-point-and-minor = byte (just 46 tt) ⨾ part minor (plus (byte DIGIT))
+point-and-minor = byte (just (code ".") tt) ⨾ part minor (plus (byte DIGIT))
 
 abbrev pub major-part : List ℕ → ℕ → Part Name
 major-part s e = record { label = major; start = 5; text = slice s 5 e }

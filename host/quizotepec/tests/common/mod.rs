@@ -1,7 +1,11 @@
-//! Lent outputs between canaries, and the independent answers in the wrapper's types.
+//! Lent outputs between canaries, the independent answers in the wrapper's types, and the functions as C sees them.
 #![allow(dead_code)]
 
+use independent::number;
 use quizotepec::{Refusal, Refused, Which};
+
+#[path = "../../src/raw.rs"]
+pub mod raw;
 
 /// How many inputs each random test makes.
 pub const RANDOM: usize = 200_000;
@@ -38,7 +42,28 @@ pub fn writes(
 }
 
 pub fn refusal(r: independent::Refusal) -> Refusal {
-    Refusal { number: r.number, place: r.place }
+    let place = r.place;
+    match r.number {
+        number::MALFORMED => Refusal::Malformed { place },
+        number::NUMBER_ABOVE_LIMIT => Refusal::NumberAboveLimit { place },
+        number::NO_SUCH_DATE => Refusal::NoSuchDate { place },
+        number::WRONG_DAY_NAME => Refusal::WrongDayName { place },
+        number::LINE_TOO_LONG => Refusal::LineTooLong { place },
+        number::TRAILER_TOO_LONG => Refusal::TrailerTooLong { place },
+        number::BODY_TOO_LARGE => Refusal::BodyTooLarge { place },
+        number::OUTPUT_TOO_SHORT => Refusal::OutputTooShort { place },
+        number::ARGUMENT_OUT_OF_RANGE => Refusal::OutOfRange { place },
+        number::TOO_MANY_PARAMETERS => Refusal::TooManyParameters { place },
+        number::REPEATED_ATTRIBUTE => Refusal::RepeatedAttribute { place },
+        number::COMMENT_TOO_DEEP => Refusal::CommentTooDeep { place },
+        number::VALUE_TOO_LONG => Refusal::ValueTooLong { place },
+        unknown => panic!("document 01 has no refusal {unknown}"),
+    }
+}
+
+/// The refusal with a number of document 01.
+pub fn at(number: u8, place: usize) -> Refusal {
+    refusal(independent::Refusal::new(number, place))
 }
 
 pub fn refused(r: independent::Refused) -> Refused {

@@ -10,21 +10,28 @@ use Rattle.version.proofs.Version.compare_bytes.Tie as tie
 
 returns : tie.Need-returns
 returns c =
-    let x = c .before .before .before .before .before .before .args in
-    let e = sym (c .before .before .before .read .ensures) ∙ ap verdict (c .before .r .given .1) in
+    let d = c .before .before .before in
+    let x = d .before .before .before .args in
+    let e = sym (d .read .ensures) ∙ ap verdict (c .before .r .given .1) in
     sym (ap (λ v. compare precedence v (header rules (x .b .now))) e)
 
 returns-2 : tie.Need-returns-2
 returns-2 c =
-    let e = sym (c .before .before .before .before .before .before .before .read .ensures) ∙ ap verdict (c .before .before .before .before .before .v .given .1) in
-    let f = sym (c .before .before .before .read2 .ensures) ∙ ap verdict (c .before .r2 .given .1) in
+    let d₂ = c .before .before .before in
+    let first = d₂ .before .before .first in
+    let d₁ = d₂ .before .before .before .before in
+    let e = sym (d₁ .read .ensures) ∙ ap verdict (first .given .1) in
+    let f = sym (d₂ .read2 .ensures) ∙ ap verdict (c .before .r2 .given .1) in
     sym (ap₂ (compare precedence) e f)
 
 returns-3 : tie.Need-returns-3
 returns-3 c =
-    let e = sym (c .before .before .before .before .before .before .before .before .read .ensures) ∙ ap verdict (c .before .before .before .before .before .before .v .given .1) in
-    let f = sym (c .before .before .before .before .read2 .ensures) ∙ ap verdict (c .before .before .w .given .1) in
-    ap outcome (c .compare .ensures) ∙ sym (ap₂ (compare precedence) e f)
+    let d₂ = c .before .before .before .before in
+    let first = d₂ .before .before .first in
+    let d₁ = d₂ .before .before .before .before in
+    let e = sym (d₁ .read .ensures) ∙ ap verdict (first .given .1) in
+    let f = sym (d₂ .read2 .ensures) ∙ ap verdict (c .before .before .second .given .1) in
+    ap outcome (c .compare .ensures .0) ∙ sym (ap₂ (compare precedence) e f)
 
 pub compare-bytes-spec : {M : Type 1} → statement M
 compare-bytes-spec =

@@ -10,12 +10,14 @@ use Rattle.version.proofs.Version.write.Tie as tie
 returns : tie.Need-returns
 returns c =
     let x = c .before .before .before .before .args in
-    refuses-argument (too-large (x .self)) (version-text (x .self)) (x .out .now) (c .unwritten .result) (c .unwritten .ensures) (large-major (x .self) (c .before .if1 .taken))
+    refuses-argument (too-large (x .self)) (version-text (x .self)) (x .out .now) (c .unwritten .result) (c .unwritten .ensures)
+    (large-major (x .self) (c .before .if1 .taken))
 
 returns-2 : tie.Need-returns-2
 returns-2 c =
     let x = c .before .before .before .before .before .before .args in
-    refuses-argument (too-large (x .self)) (version-text (x .self)) (x .out .now) (c .unwritten2 .result) (c .unwritten2 .ensures) (large-minor (x .self) (c .before .if2 .taken))
+    refuses-argument (too-large (x .self)) (version-text (x .self)) (x .out .now) (c .unwritten2 .result) (c .unwritten2 .ensures)
+    (large-minor (x .self) (c .before .if2 .taken))
 
 text-len-requires : tie.Need-text-len-requires
 text-len-requires c κs =
@@ -31,10 +33,15 @@ returns-3 c =
 
 returns-4 : tie.Need-returns-4
 returns-4 c =
-    let x = c .before .before .before .before .before .before .before .before .before .before .before .args in
-    let n = c .before .before .before .before .before .text-len in
-    let t = both-within (x .self) (c .before .before .before .before .before .before .before .before .if1 .left) (c .before .before .before .before .before .before .if2 .left) in
-    writes-all (too-large (x .self)) (version-text (x .self)) (x .out .now) (n .result) (c .before .before .put-text .last .1 .0) (n .ensures) t (omega (arith, n .ensures, c .before .before .before .before .if3 .left)) (c .before .before .put-text .ensures)
+    let p = c .before .before in
+    let i₃ = p .before .before in
+    let n = i₃ .before .text-len in
+    let i₂ = i₃ .before .before in
+    let i₁ = i₂ .before .before in
+    let x = i₁ .before .before .before .args in
+    writes-all (too-large (x .self)) (version-text (x .self)) (x .out .now) (n .result) (p .put-text .last .1 .0) (n .ensures)
+    (both-within (x .self) (i₁ .if1 .left) (i₂ .if2 .left))
+    (omega (arith, n .ensures, i₃ .if3 .left)) (p .put-text .ensures)
 
 pub write-spec : {M : Type 1} → statement M
 write-spec =

@@ -1,0 +1,4 @@
+pub mod Form
+pub mod Demands
+pub mod Writer
+pub mod Back

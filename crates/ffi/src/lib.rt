@@ -1,0 +1,90 @@
+// HTTP/1.1 protocol parameters and chunked bodies: the functions of the proved library, for C and C++.
+//
+// Bytes are a pointer and a length. A length of 0 may come with any pointer, null included; nothing is read or written through it. An
+// output overlaps no input. Readers of header values take the value whole: the caller trims outer blanks. Writers write at the front of
+// the output, keep the rest and give the length; the chunked reader writes the body there. A refusal writes nothing, nor does "more". No
+// function keeps anything between calls: any number of threads may call them, each on bytes of its own or on inputs that they share.
+//
+// In each struct `number` is 0 where there is an answer, otherwise one of the refusal numbers; a field that has no meaning then is 0.
+// Places count from 0.
+ghost use mathlib.Core.Path.{_≡_};
+ghost use Rattle.grammar.specs.Comparing.{outcome, refused-at};
+ghost use Rattle.octets.specs.Comparing.{comparison};
+ghost use Rattle.octets.specs.Writing.{written};
+ghost use Rattle.ffi.specs.Fields.{same-fields};
+ghost use Rattle.ffi.specs.Fields.{written-fields};
+use octets::Refusal;
+use octets::Written;
+
+// Whether two inputs are equal, or match.
+#[repr(C)]
+pub struct QzSame {
+    pub number: u8,
+    pub place: usize,
+    // 1 or 2: the input that was refused
+    pub which: u8,
+    pub same: bool,
+}
+
+// What a writer did.
+#[repr(C)]
+pub struct QzWritten {
+    pub number: u8,
+    pub place: usize,
+    // how many bytes were written
+    pub length: usize,
+}
+
+// Two inputs that were read.
+fn compared(same: bool) -> QzSame
+    ensures { λ r. ⌜ r ≡ same-fields (outcome same) ⌝ }
+{
+    QzSame {
+        number: 0,
+        place: 0,
+        which: 0,
+        same,
+    }
+}
+
+// The first or the second input was refused.
+fn one_refused(which: u8, r: Refusal) -> QzSame
+    ensures { λ x. ⌜ x ≡ same-fields (refused-at which (r .number) (r .place)) ⌝ }
+{
+    QzSame {
+        number: r.number,
+        place: r.place,
+        which,
+        same: false,
+    }
+}
+
+// A comparison, as C sees it.
+pub fn same_of(c: octets::Compared) -> QzSame
+    ensures { λ r. ⌜ r ≡ same-fields (comparison c) ⌝ }
+{
+    match c {
+        octets::Compared::Same => compared(true),
+        octets::Compared::Different => compared(false),
+        octets::Compared::FirstRefused(r) => one_refused(1, r),
+        octets::Compared::SecondRefused(r) => one_refused(2, r),
+    }
+}
+
+// A writer's answer, as C sees it.
+pub fn written_fields(w: Written) -> QzWritten
+    ensures { λ r. ⌜ r ≡ written-fields (written w) ⌝ }
+{
+    match w {
+        Written::Length(n) => QzWritten {
+            number: 0,
+            place: 0,
+            length: n,
+        },
+        Written::Refused(r) => QzWritten {
+            number: r.number,
+            place: r.place,
+            length: 0,
+        },
+    }
+}

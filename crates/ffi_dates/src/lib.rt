@@ -1,0 +1,66 @@
+// Dates for C and Rust. Nothing is decided here.
+ghost use mathlib.Core.Path.{_≡_};
+ghost use lib.ListN.{length};
+ghost use Rattle.grammar.specs.helpers.Judge.{header};
+ghost use Rattle.date.specs.Grammar.{rules as dates};
+ghost use Rattle.date_writer.specs.Writing.{date-writing, date-output};
+ghost use Rattle.ffi_dates.specs.Fields.{date-fields};
+ghost use Rattle.ffi.specs.Fields.{written-fields};
+use ffi::QzWritten;
+
+// A date that was read.
+#[repr(C)]
+pub struct QzDate {
+    pub number: u8,
+    pub place: usize,
+    // since 1970-01-01 00:00:00; negative before it
+    pub seconds: i64,
+    // 1583 to 9999
+    pub year: u32,
+    // from 1
+    pub month: u32,
+    pub day: u32,
+    pub hour: u32,
+    pub minute: u32,
+    pub second: u32,
+}
+
+// A date in the form of RFC 1123, of RFC 850 or of asctime.
+#[no_mangle]
+pub extern "C" fn qz_date_read(s: &[u8]) -> QzDate
+    ensures { λ r. ⌜ r ≡ date-fields (header dates (now (s .entry))) ⌝ }
+{
+    match date::read(s) {
+        date::Reading::Read(d) => QzDate {
+            number: 0,
+            place: 0,
+            seconds: d.seconds,
+            year: d.fields.year,
+            month: d.fields.month,
+            day: d.fields.day,
+            hour: d.fields.hour,
+            minute: d.fields.minute,
+            second: d.fields.second,
+        },
+        date::Reading::Refused(r) => QzDate {
+            number: r.number,
+            place: r.place,
+            seconds: 0,
+            year: 0,
+            month: 0,
+            day: 0,
+            hour: 0,
+            minute: 0,
+            second: 0,
+        },
+    }
+}
+
+// Writes the 29 bytes of the RFC 1123 form; the range is -12,212,553,600 to 253,402,300,799.
+#[no_mangle]
+pub extern "C" fn qz_date_write(seconds: i64, out: &mut [u8]) -> QzWritten
+    ensures answers { λ r. ⌜ r ≡ written-fields (date-writing seconds (length (now (out .entry)))) ⌝ }
+    ensures writes { λ _. ⌜ now (out .exit) ≡ date-output seconds (now (out .entry)) ⌝ }
+{
+    ffi::written_fields(date_writer::write(seconds, out))
+}

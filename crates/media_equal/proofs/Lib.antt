@@ -1,0 +1,8 @@
+pub mod Unquoted
+pub mod Tables
+pub mod Compared
+pub mod Places
+pub mod Agreeing
+pub mod Effect
+pub mod Demands
+pub mod EqualExamples

@@ -1,0 +1,5 @@
+-- For the contracts of helpers and for proofs. Nothing here has to be believed.
+pub mod Runs
+pub mod Words
+pub mod Decimals
+pub mod Quoted

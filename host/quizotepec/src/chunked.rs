@@ -1,0 +1,57 @@
+use crate::answer::written;
+use crate::raw;
+use crate::Refusal;
+
+/// The answer of the chunked reader.
+#[derive(Clone, Copy, Debug, PartialEq, Eq, Hash)]
+pub enum Decoded {
+    /// The input begins with a body, whose data are at the front of the output.
+    Whole {
+        /// How many bytes of the input are the body.
+        taken: usize,
+        /// How many bytes of data were written.
+        length: usize,
+    },
+    /// The input is the beginning of a body. Nothing was written.
+    More,
+    /// No continuation makes the input a body within the limits. Nothing was written.
+    Refused(Refusal),
+}
+
+/// Reads a chunked body at the front of the input; the room is the output's length.
+///
+/// ```
+/// use quizotepec::{chunked_decode, Decoded, Refusal};
+/// let mut out = [b'.'; 6];
+/// let body = b"5\r\nhello\r\n0\r\n\r\n";
+/// assert_eq!(chunked_decode(&body[..9], &mut out), Decoded::More);
+/// assert_eq!(chunked_decode(body, &mut out), Decoded::Whole { taken: 15, length: 5 });
+/// assert_eq!(&out, b"hello.");
+/// let refusal = Refusal::BodyTooLarge { place: 0 };
+/// assert_eq!(chunked_decode(body, &mut out[..4]), Decoded::Refused(refusal));
+/// ```
+#[must_use]
+pub fn chunked_decode(input: &[u8], out: &mut [u8]) -> Decoded {
+    // SAFETY: the output is borrowed alone, so the input does not overlap it; both are valid for their lengths.
+    let b = unsafe { raw::qz_chunked_decode(input.as_ptr(), input.len(), out.as_mut_ptr(), out.len()) };
+    match b.state {
+        raw::WHOLE => Decoded::Whole { taken: b.taken, length: b.length },
+        raw::MORE => Decoded::More,
+        _ => Decoded::Refused(Refusal::numbered(b.number, b.place)),
+    }
+}
+
+/// Writes a body in chunks of `chunk_len` bytes and what remains, and gives the length of the frame.
+///
+/// ```
+/// use quizotepec::{chunked_encode, Refusal};
+/// let mut out = [0; 25];
+/// assert_eq!(chunked_encode(b"hello", 2, &mut out), Ok(25));
+/// assert_eq!(&out, b"2\r\nhe\r\n2\r\nll\r\n1\r\no\r\n0\r\n\r\n");
+/// assert_eq!(chunked_encode(b"hello", 0, &mut out), Err(Refusal::OutOfRange { place: 0 }));
+/// ```
+pub fn chunked_encode(body: &[u8], chunk_len: usize, out: &mut [u8]) -> Result<usize, Refusal> {
+    let (from, to) = (body.as_ptr(), out.as_mut_ptr());
+    // SAFETY: the output is borrowed alone, so the body does not overlap it; both are valid for their lengths.
+    written(unsafe { raw::qz_chunked_encode(from, body.len(), chunk_len, to, out.len()) })
+}

@@ -1,0 +1,170 @@
+//! What the crate adds to the library: versions as text, instants as system times, the bytes of a part.
+
+mod common;
+
+use common::{at, lend, writes, RANDOM};
+use independent::date;
+use independent::date::{EARLIEST, LATEST, LENGTH};
+use independent::generate::{any, instant, numbers, pair, Kind, Rng};
+use quizotepec::{
+    date_read, date_write, date_write_time, etag_read, language_read, media_charset, media_read, url_read,
+    version_compare, version_read, version_write, Charset, Date, Span, Version,
+};
+use std::time::{Duration, SystemTime, UNIX_EPOCH};
+
+const NANOS: i128 = 1_000_000_000;
+
+#[test]
+fn versions_as_text() {
+    assert_eq!(Version::HTTP_1_1, Version { major: 1, minor: 1 });
+    assert_eq!(Version::HTTP_1_0, Version { major: 1, minor: 0 });
+    assert_eq!(
+        (Version::HTTP_1_0.to_string(), Version::HTTP_1_1.to_string()),
+        ("HTTP/1.0".into(), "HTTP/1.1".into())
+    );
+    assert_eq!("HTTP/65536.0".parse::<Version>(), Err(at(2, 9)));
+    let mut rng = Rng::new(41);
+    for _ in 0..RANDOM {
+        let (major, minor) = numbers(&mut rng);
+        let version = Version { major: major as u32, minor: minor as u32 };
+        let mut out = [0; 32];
+        if let Ok(length) = version_write(version, &mut out) {
+            assert_eq!(version.to_string().as_bytes(), &out[..length]);
+            assert_eq!(version.to_string().parse(), Ok(version));
+        }
+        if let Ok(text) = String::from_utf8(any(Kind::Version, &mut rng)) {
+            assert_eq!(text.parse::<Version>(), version_read(text.as_bytes()), "{text}");
+        }
+    }
+}
+
+/// The order of versions that were read is that of the library.
+#[test]
+fn versions_in_order() {
+    let mut rng = Rng::new(42);
+    for _ in 0..RANDOM {
+        let (first, second) = pair(Kind::Version, &mut rng);
+        if let (Ok(one), Ok(other)) = (version_read(&first), version_read(&second)) {
+            assert_eq!(version_compare(&first, &second), Ok(one.cmp(&other)), "{one} {other}");
+        }
+    }
+}
+
+/// So many nanoseconds from 1970.
+fn time(nanos: i128) -> SystemTime {
+    let apart = nanos.unsigned_abs();
+    let apart = Duration::new((apart / NANOS as u128) as u64, (apart % NANOS as u128) as u32);
+    if nanos < 0 {
+        UNIX_EPOCH - apart
+    } else {
+        UNIX_EPOCH + apart
+    }
+}
+
+fn time_agrees(nanos: i128, room: usize) {
+    let seconds = i64::try_from(nanos.div_euclid(NANOS)).expect("within the range of a system time");
+    writes(date::write(seconds, room), room, |out| date_write_time(time(nanos), out), nanos);
+}
+
+#[test]
+fn times_at_both_ends_and_around_1970() {
+    for second in [EARLIEST - 1, EARLIEST, EARLIEST + 1, -1, 0, 1, LATEST, LATEST + 1, LATEST + 2] {
+        for nanos in [-1, 0, 1, NANOS / 2, NANOS - 1] {
+            (LENGTH - 1..=LENGTH + 1).for_each(|room| time_agrees(i128::from(second) * NANOS + nanos, room));
+        }
+    }
+}
+
+#[test]
+fn random_times() {
+    let mut rng = Rng::new(43);
+    for _ in 0..RANDOM {
+        let nanos = i128::from(rng.below(NANOS as usize) as u32);
+        time_agrees(i128::from(instant(&mut rng)) * NANOS + nanos, LENGTH);
+    }
+}
+
+/// The times that are farthest from 1970: refusal 9 also where the output is too short.
+#[test]
+fn times_that_no_date_holds() {
+    let far = [u64::MAX, i64::MAX as u64 + 1, i64::MAX as u64, i64::MAX as u64 - 1, 1 << 62]
+        .map(Duration::from_secs);
+    let parts = far.iter().flat_map(|far| [*far, far.saturating_sub(Duration::from_nanos(1))]);
+    let times: Vec<_> =
+        parts.flat_map(|far| [UNIX_EPOCH.checked_add(far), UNIX_EPOCH.checked_sub(far)]).flatten().collect();
+    assert!(times.len() >= 4, "{times:?}");
+    for time in times {
+        for room in [0, LENGTH] {
+            assert_eq!(
+                lend(room, |out| date_write_time(time, out), |_| Vec::new()),
+                Err(at(9, 0)),
+                "{time:?}"
+            );
+        }
+    }
+}
+
+#[test]
+fn dates_as_times() {
+    let mut rng = Rng::new(44);
+    let near = [EARLIEST, -1, 0, 1, LATEST];
+    for index in 0..RANDOM {
+        let seconds = near.get(index).copied().unwrap_or_else(|| instant(&mut rng));
+        let mut text = [0; LENGTH];
+        assert_eq!(date_write(seconds, &mut text).is_ok(), (EARLIEST..=LATEST).contains(&seconds));
+        let Ok(date) = date_read(&text) else { continue };
+        assert_eq!(date.system_time(), Some(time(i128::from(seconds) * NANOS)), "{seconds}");
+        let mut again = [0; LENGTH];
+        assert_eq!(date.system_time().map(|time| date_write_time(time, &mut again)), Some(Ok(LENGTH)));
+        assert_eq!(again, text);
+    }
+}
+
+/// A date of the caller's own may name any number of seconds.
+#[test]
+fn no_number_of_seconds_panics() {
+    for seconds in [i64::MIN, i64::MIN + 1, i64::MAX - 1, i64::MAX] {
+        let date = Date { year: 0, month: 0, day: 0, hour: 0, minute: 0, second: 0, seconds };
+        if let Some(time) = date.system_time() {
+            assert_eq!(date_write_time(time, &mut [0; LENGTH]), Err(at(9, 0)));
+        }
+    }
+}
+
+#[test]
+fn bytes_of_a_part() {
+    let value = b"abcdef";
+    let of = |start, length| Span { start, length }.of(value);
+    assert_eq!(of(0, 6), Some(&value[..]));
+    assert_eq!(of(2, 3), Some(&b"cde"[..]));
+    assert_eq!(of(6, 0), Some(&b""[..]));
+    for (start, length) in [(7, 0), (0, 7), (6, 1), (usize::MAX, 0), (usize::MAX, 2), (1, usize::MAX)] {
+        assert_eq!(of(start, length), None, "{start} {length}");
+    }
+}
+
+#[test]
+fn parts_in_the_value_that_was_read() {
+    let tag = etag_read(b"w/\"xyzzy\"").unwrap();
+    assert_eq!(tag.opaque_in(b"w/\"xyzzy\""), Some(&b"xyzzy"[..]));
+    assert_eq!(tag.opaque_in(b"w/\""), None);
+    assert_eq!(language_read(b"x-pig-latin").unwrap().primary_in(b"x-pig-latin"), Some(&b"x"[..]));
+
+    let value = b"text/html \t; charset=\"utf\\-8\" ;q=\"\"";
+    let media = media_read(value).unwrap();
+    assert_eq!((media.main_in(value), media.subtype_in(value)), (Some(&b"text"[..]), Some(&b"html"[..])));
+    let parts: Vec<_> =
+        media.parameters().iter().map(|p| (p.attribute_in(value), p.value_in(value))).collect();
+    let expected: [(&[u8], &[u8]); 2] = [(b"charset", b"utf\\-8"), (b"q", b"")];
+    assert_eq!(parts, expected.map(|(attribute, value)| (Some(attribute), Some(value))));
+    assert_eq!(media_charset(value).unwrap().name_in(value), Some(&b"utf\\-8"[..]));
+    assert_eq!(Charset::Latin1.name_in(b"text/html"), Some(&b"ISO-8859-1"[..]));
+    assert_eq!(Charset::NotStated.name_in(b"image/gif"), None);
+
+    let value = b"http://abc.com:80/~smith/home.html?";
+    let url = url_read(value).unwrap();
+    assert_eq!(url.host_in(value), Some(&b"abc.com"[..]));
+    assert_eq!((url.path_in(value), url.query_in(value)), (Some(&b"/~smith/home.html"[..]), Some(&b""[..])));
+    let url = url_read(b"http://a").unwrap();
+    assert_eq!((url.path_in(b"http://a"), url.query_in(b"http://a")), (None, None));
+}
