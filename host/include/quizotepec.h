@@ -94,13 +94,6 @@ typedef struct QzOrder {
     uint8_t order;
 } QzOrder;
 
-/* A number that was read: seconds, or thousandths. */
-typedef struct QzNumber {
-    uint8_t number;
-    size_t place;
-    uint32_t value;
-} QzNumber;
-
 /* A version: `HTTP/` in any case, digits, `.`, digits; each number is at most 65,535. */
 QzVersion qz_version_read(const uint8_t *s, size_t s_len);
 
@@ -109,6 +102,13 @@ QzOrder qz_version_compare(const uint8_t *a, size_t a_len, const uint8_t *b, siz
 
 /* Writes a version in capitals without leading zeros. */
 QzWritten qz_version_write(uint32_t major, uint32_t minor, uint8_t *out, size_t out_len);
+
+/* A number that was read: seconds, or thousandths. */
+typedef struct QzNumber {
+    uint8_t number;
+    size_t place;
+    uint32_t value;
+} QzNumber;
 
 /* Delta-seconds, at most 2,147,483,647. */
 QzNumber qz_delta_read(const uint8_t *s, size_t s_len);
@@ -175,15 +175,6 @@ QzDate qz_date_read(const uint8_t *s, size_t s_len);
 /* Writes the 29 bytes of the RFC 1123 form; the range is -12,212,553,600 to 253,402,300,799. */
 QzWritten qz_date_write(int64_t seconds, uint8_t *out, size_t out_len);
 
-enum {
-    /* QzCharset.kind where number is 0: there is none. */
-    QZ_NO_CHARSET = 0,
-    /* It is the value of the parameter. */
-    QZ_STATED_CHARSET = 1,
-    /* It is that of type `text` without the parameter. */
-    QZ_ISO_8859_1 = 2
-};
-
 /* An attribute, and its value without its quotes; pairs stay as sent. */
 typedef struct QzParameter {
     size_t start;
@@ -207,6 +198,23 @@ typedef struct QzMedia {
     QzParameter parameters[16];
 } QzMedia;
 
+enum {
+    /* How many entries QzMedia.parameters has. */
+    QZ_PARAMETERS = 16
+};
+
+/* A media type: type `/` subtype, then parameters with blanks around their `;` only. */
+QzMedia qz_media_read(const uint8_t *s, size_t s_len);
+
+enum {
+    /* QzCharset.kind where number is 0: there is none. */
+    QZ_NO_CHARSET = 0,
+    /* It is the value of the parameter. */
+    QZ_STATED_CHARSET = 1,
+    /* It is that of type `text` without the parameter. */
+    QZ_ISO_8859_1 = 2
+};
+
 /* The effective charset of a media type. */
 typedef struct QzCharset {
     uint8_t number;
@@ -218,14 +226,6 @@ typedef struct QzCharset {
     size_t length;
     bool quoted;
 } QzCharset;
-
-enum {
-    /* How many entries QzMedia.parameters has. */
-    QZ_PARAMETERS = 16
-};
-
-/* A media type: type `/` subtype, then parameters with blanks around their `;` only. */
-QzMedia qz_media_read(const uint8_t *s, size_t s_len);
 
 /* Reads first `a`, then `b`; `same` where type, subtype and the set of parameters agree: names in any case, values
  * after unquoting, the value of `charset` in any case. */

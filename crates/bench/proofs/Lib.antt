@@ -1,5 +1,1 @@
-pub mod Says
-pub mod Pieces
-pub mod Printing
-pub mod Example
-pub mod Demands
+pub mod Walk

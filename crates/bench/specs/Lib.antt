@@ -1,3 +1,1 @@
-pub mod Saying
-pub mod Calls
 pub mod helpers

@@ -1,14 +1,12 @@
 // Document 01's bench program: lines of hexadecimal, one frame a line, each decoded as a chunked body.
 ghost use mathlib.Core.Path.{_≡_};
-ghost use Prim.Native.Nat.{_+_, _≤_};
+ghost use Prim.Native.Nat.{_+_};
 ghost use lib.ListN.{length};
 ghost use Rattle.io.specs.Counts.{Counts};
 ghost use Rattle.text.specs.Placing.{placed};
-ghost use Rattle.chunked.specs.Verdict.{verdict};
-ghost use Rattle.bench.specs.Saying.{numbers, said-answer, said};
-ghost use Rattle.bench.specs.Calls.{piece-said, piece-held, last-said, Foremost};
+ghost use Rattle.report.specs.Saying.{said};
+ghost use Rattle.report.specs.Calls.{piece-said, piece-held, last-said, Foremost};
 ghost use Rattle.bench.specs.helpers.Fits.{Buffers, PieceFits, LastFits, LineFits};
-use chunked::Answer;
 use libc::STDERR_FILENO;
 use libc::STDIN_FILENO;
 use libc::STDOUT_FILENO;
@@ -149,31 +147,6 @@ fn put_line(line: &[u8], frame: &mut [u8], room: &mut [u8], out: &mut [u8], at: 
     let bytes = lines::from_hex(line, frame);
     match bytes {
         Hex::Bad => text::put_bytes(b"X\n", out, at),
-        Hex::Bytes(count) => put_answer(chunked::decode(&frame[..count], room), out, at),
+        Hex::Bytes(count) => report::put_answer(chunked::decode(&frame[..count], room), out, at),
     }
-}
-
-fn put_answer(answer: Answer, out: &mut [u8], at: usize) -> usize
-    requires { ⌜ at + length (said-answer (verdict answer)) ≤ length (now out) ⌝ }
-    ensures ends { λ r. ⌜ r ≡ at + length (said-answer (verdict answer)) ⌝ }
-    ensures says { λ _. ⌜ now (out .exit) ≡ placed (now (out .entry)) at (said-answer (verdict answer)) ⌝ }
-{
-    match answer {
-        Answer::Whole { taken, length } => put_two(b"C ", taken as u64, length as u64, out, at),
-        Answer::More => text::put_bytes(b"M\n", out, at),
-        Answer::Refused(why) => put_two(b"R ", why.number as u64, why.place as u64, out, at),
-    }
-}
-
-// Two numbers, a blank between them, behind some bytes.
-fn put_two(begin: &[u8], first: u64, second: u64, out: &mut [u8], at: usize) -> usize
-    requires { ⌜ at + length (numbers (now begin) first second) ≤ length (now out) ⌝ }
-    ensures ends { λ r. ⌜ r ≡ at + length (numbers (now (begin .entry)) first second) ⌝ }
-    ensures says { λ _. ⌜ now (out .exit) ≡ placed (now (out .entry)) at (numbers (now (begin .entry)) first second) ⌝ }
-{
-    let mut end = text::put_bytes(begin, out, at);
-    end = text::put_decimal(first, out, end);
-    end = text::put_bytes(b" ", out, end);
-    end = text::put_decimal(second, out, end);
-    text::put_bytes(b"\n", out, end)
 }

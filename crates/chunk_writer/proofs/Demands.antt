@@ -1,5 +1,5 @@
 -- What the writer's frame is, over the grammar of chunked bodies, and that it reads back. The words quoted are those of document 01.
-use mathlib.Core.Path.{_≡_, refl, _∙_, ap, subst}
+use mathlib.Core.Path.{_≡_, refl, sym, _∙_, ap, subst}
 use mathlib.Core.List.{List, [], _++_}
 use Prim.Native.Nat.{ℕ, _<_, _≤_}
 use Prim.Native.Char.{code}
@@ -9,7 +9,9 @@ use lib.Seq.{take-length}
 use Rattle.octets.specs.Bytes.{octet?}
 use Rattle.numerals.specs.Numeral.{glyph, digits, width-in, width, numeral}
 use Rattle.numerals.proofs.Demands as Numerals
-use Rattle.framing.specs.Grammar.{Many, Size, Body, Broken}
+use Rattle.framing.specs.declared.Whole.{Whole}
+use Rattle.framing.specs.Grammar.{Many, Size, Body, limits, chunked}
+use Rattle.framing.specs.helpers.Machine.{tell}
 use Rattle.framing.specs.Answer.{whole}
 use Rattle.framing.specs.Demand.{BeginsWhole}
 use Rattle.framing.specs.Reading.{decode, decoded}
@@ -47,22 +49,25 @@ frames body n m p = subst (Body (framed (chunks-of n body))) (joined-cut n body 
 -- it reads back, in every room that holds the body, at every chunk length that the writer accepts: whole, all of it taken, the
 -- body's length
 pub reads-back : (r : ℕ) (body : List ℕ) (n : ℕ) → Many octet? body → 0 < n → length body ≤ BODY_LIMIT → length body ≤ r
-    → decode r (frame body n) ≡ whole (length (frame body n)) (length body)
+    → decode r (frame body n) ≡ whole (record { taken = length (frame body n); length = length body })
 unfolding frame
 reads-back r body n m p small l =
     let j : joined (chunks-of n body) ≡ body = joined-cut n body p in
     let k : length (joined (chunks-of n body)) ≡ length body = ap length j in
-    reads-framed r (chunks-of n body) (pieces-of n body p m) (omega arith) (omega arith) ∙ ap (whole (length (framed (chunks-of n body)))) k
+    reads-framed r (chunks-of n body) (pieces-of n body p m) (omega arith) (omega arith)
+    ∙ ap (λ (m : ℕ). whole (tell (length (framed (chunks-of n body))) (record { length = m }))) k
 
 -- and what is written then is the body
 pub writes-back : (r : ℕ) (body : List ℕ) (n : ℕ) → Many octet? body → 0 < n → length body ≤ BODY_LIMIT → length body ≤ r
     → decoded r (frame body n) ≡ body
 writes-back r body n m p small l =
-    let w : (d : List ℕ) × BeginsWhole Body (Broken r) (frame body n) (length (frame body n)) (length body) d
-    = Framing.whole r (frame body n) (length (frame body n)) (length body) .0 (reads-back r body n m p small l) in
-    Framing.demands .writes r (frame body n) (length (frame body n)) (length body) (w .0) (w .1)
-    ∙ Framing.one-reading (frame body n) (w .0) body
-    (subst (λ (z : List ℕ). Body z (w .0)) (take-length (frame body n)) (w .1 .body)) (frames body n m p)
+    let told : Whole = record { taken = length (frame body n); length = length body } in
+    let w : (d : List ℕ) × BeginsWhole (chunked limits) r (frame body n) told d
+    = Framing.whole r (frame body n) told .0 (reads-back r body n m p small l) in
+    let all : take (w .1 .bytes) (frame body n) ≡ frame body n
+    = ap (λ (k : ℕ). take k (frame body n)) (sym (Framing.taken r (frame body n) (w .1))) ∙ take-length (frame body n) in
+    Framing.demands .writes r (frame body n) told (w .0) (w .1)
+    ∙ Framing.one-reading (frame body n) (w .0) body (subst (λ (z : List ℕ). Body z (w .0)) all (w .1 .body)) (frames body n m p)
 
 -- "`hello` at length 2 makes 25 bytes"
 pub hello : (frame (bytes "hello") 2 ≡ bytes "2\r\nhe\r\n2\r\nll\r\n1\r\no\r\n0\r\n\r\n") × (length (frame (bytes "hello") 2) ≡ 25)

@@ -7,20 +7,20 @@ use Prim.Native.Nat.{ℕ, zero, suc, _+_, _-_, _*_, _^_, _<_, _≤_}
 use native.Mathlib.Omega.{arith}
 use lib.Dec.{eqb}
 use lib.ListN.{length, length-append}
-use borrow.Author.Tests.{ne-eqb, le-ltb}
+use borrow.Author.Tests.{ne-eqb}
 use Rattle.octets.specs.Bytes.{octet?, hex?, hex-value}
 use Rattle.numerals.specs.Numeral.{numeral}
 use Rattle.numerals.proofs.Demands as Numerals
 use Rattle.framing.specs.declared.LinePos.the-variants.{First, Size}
-use Rattle.framing.specs.declared.TrailPos.the-variants.{Start}
 use Rattle.framing.specs.declared.State.{State}
 use Rattle.framing.specs.declared.State.the-variants.{Line, LineFeed, Data, DataCr, DataLf, Trail, EndLf, Done}
 use Rattle.framing.specs.Answer.{whole}
 use Rattle.framing.specs.Grammar as G
 use Rattle.framing.specs.Grammar.{Many, valueFrom}
 use Rattle.framing.specs.helpers.Scan.{Verdict, ended, stop, note, scan, answer}
-use Rattle.framing.specs.helpers.Machine.{lineStep, lineLive, lineEnds, leaveLine, enterChunk, step, live, done, pastRoom, over}
-use Rattle.framing.specs.Reading.{judge, decode}
+use Rattle.framing.specs.helpers.Machine.{End, lineStep, lineEnds, leaveLine, trailer, step, tell}
+use Rattle.framing.specs.Reading.{judge, found, decode}
+use Rattle.framing.proofs.Turns as Turns
 use Rattle.grammar.specs.Text.{joined}
 use Rattle.chunk_writer.specs.Writing.{chunk, end, framed}
 use Rattle.chunk_writer.proofs.Cuts.{hex-short}
@@ -44,10 +44,6 @@ step-line-cr : (v k t : ℕ) → step (Line (Size v) k t) 13 ≡ LineFeed v t
 unfolding step lineEnds leaveLine
 step-line-cr v k t = refl
 
-step-line-lf : (v t : ℕ) → step (LineFeed v t) 10 ≡ enterChunk v t
-unfolding step
-step-line-lf v t = refl
-
 step-data : (m t b : ℕ) → octet? b ≡ true → step (Data (suc m) t) b ≡ Data m t
 unfolding step
 step-data m t b h = rw h refl
@@ -55,46 +51,6 @@ step-data m t b h = rw h refl
 step-last : (t b : ℕ) → octet? b ≡ true → step (Data 0 t) b ≡ DataCr t
 unfolding step
 step-last t b h = rw h refl
-
--- ## No verdict
-quiet-size : (r v k t : ℕ) → k ≤ 1024 → t + v ≤ r → judge r (Line (Size v) k t) ≡ none
-unfolding judge live lineLive done over pastRoom
-quiet-size r v k t h l = rw (ne-eqb k 1025 (λ e. omega arith), le-ltb r (t + v) l) refl
-
-quiet-feed : (r v t : ℕ) → judge r (LineFeed v t) ≡ none
-unfolding judge live done over
-quiet-feed r v t = refl
-
-quiet-data : (r m t : ℕ) → judge r (Data m t) ≡ none
-unfolding judge live done over
-quiet-data r m t = refl
-
-quiet-line : (r t : ℕ) → judge r (Line First 0 t) ≡ none
-unfolding judge live lineLive done over pastRoom
-quiet-line r t = refl
-
-quiet-ends : (r t : ℕ)
-    → (judge r (DataCr t) ≡ none) × (judge r (DataLf t) ≡ none) × (judge r (EndLf t) ≡ none) × (judge r (Trail Start 0 t) ≡ none)
-unfolding judge live done over
-quiet-ends r t = (refl, refl, refl, refl)
-
-step-ends : (t : ℕ) → (step (DataCr t) 13 ≡ DataLf t) × (step (DataLf t) 10 ≡ Line First 0 t)
-    × (step (Trail Start 0 t) 13 ≡ EndLf t) × (step (EndLf t) 10 ≡ Done t)
-unfolding step
-step-ends t = (refl, refl, refl, refl)
-
-enter-data : (v t : ℕ) → 0 < v → enterChunk v t ≡ Data (v - 1) (t + v)
-unfolding enterChunk
-enter-data zero t h = absurd (omega arith)
-enter-data (suc v) t h = ap (λ (m : ℕ). Data m (t + suc v)) (omega arith)
-
-enter-last : (t : ℕ) → enterChunk 0 t ≡ Trail Start 0 t
-unfolding enterChunk
-enter-last t = refl
-
-ends : (r t : ℕ) → judge r (Done t) ≡ some (ended t)
-unfolding judge live done
-ends r t = refl
 
 -- ## Over some bytes
 module _ (r : ℕ) where
@@ -117,7 +73,7 @@ module _ (r : ℕ) where
   byte s s′ s″ b xs e q f i ys =
       let n : suc i + length xs ≡ i + suc (length xs) = omega arith in
       ap (λ (z : State). note i (judge r z) (scan step (judge r) z (suc i) (xs ++ ys))) e
-      ∙ ap (λ (v : Option Verdict). note i v (scan step (judge r) s′ (suc i) (xs ++ ys))) q
+      ∙ ap (λ (v : Option (Verdict End)). note i v (scan step (judge r) s′ (suc i) (xs ++ ys))) q
       ∙ f (suc i) ys
       ∙ ap (λ (j : ℕ). scan step (judge r) s″ j ys) n
 
@@ -135,7 +91,7 @@ module _ (r : ℕ) where
       subst (λ (j : ℕ). Skips (Line (Size v) k t) (d ∷ ds) (Line (Size (valueFrom v (d ∷ ds))) j t)) n
       (byte (Line (Size v) k t) (Line (Size (v * 16 + hex-value d)) (suc k) t)
       (Line (Size (valueFrom v (d ∷ ds))) (suc k + length ds) t) d ds
-      (step-size v k t d e) (quiet-size r (v * 16 + hex-value d) (suc k) t (omega arith) (omega (arith, grows (v * 16 + hex-value d) ds)))
+      (step-size v k t d e) (Turns.size-quiet r (v * 16 + hex-value d) (suc k) t (λ z. omega arith) (omega (arith, grows (v * 16 + hex-value d) ds)))
       (skip-digits ds (v * 16 + hex-value d) (suc k) t m (omega arith) l))
 
   skip-size : (ds : List ℕ) (t : ℕ) → 0 < length ds → Many hex? ds → length ds ≤ 1024 → t + valueFrom 0 ds ≤ r
@@ -145,17 +101,17 @@ module _ (r : ℕ) where
       let n : 1 + length ds ≡ suc (length ds) = omega arith in
       subst (λ (j : ℕ). Skips (Line First 0 t) (d ∷ ds) (Line (Size (valueFrom 0 (d ∷ ds))) j t)) n
       (byte (Line First 0 t) (Line (Size (0 * 16 + hex-value d)) 1 t) (Line (Size (valueFrom 0 (d ∷ ds))) (1 + length ds) t) d ds
-      (step-first d t e) (quiet-size r (0 * 16 + hex-value d) 1 t (omega arith) (omega (arith, grows (0 * 16 + hex-value d) ds)))
+      (step-first d t e) (Turns.size-quiet r (0 * 16 + hex-value d) 1 t (λ z. omega arith) (omega (arith, grows (0 * 16 + hex-value d) ds)))
       (skip-digits ds (0 * 16 + hex-value d) 1 t m (omega arith) l))
 
   skip-data : (xs : List ℕ) (m t : ℕ) → Many octet? xs → length xs ≡ suc m → Skips (Data m t) xs (DataCr t)
   skip-data [] m t G.none h = absurd (omega arith)
-  skip-data (b ∷ []) zero t (G.more e G.none) h = byte (Data 0 t) (DataCr t) (DataCr t) b [] (step-last t b e) (quiet-ends r t .0)
+  skip-data (b ∷ []) zero t (G.more e G.none) h = byte (Data 0 t) (DataCr t) (DataCr t) b [] (step-last t b e) (Turns.quiet-data-cr r t)
       (stay (DataCr t))
   skip-data (b ∷ []) (suc m) t (G.more e G.none) h = absurd (omega arith)
   skip-data (b ∷ c ∷ xs) zero t (G.more e (G.more e′ ms)) h = absurd (omega arith)
   skip-data (b ∷ c ∷ xs) (suc m) t (G.more e (G.more e′ ms)) h =
-      byte (Data (suc m) t) (Data m t) (DataCr t) b (c ∷ xs) (step-data m t b e) (quiet-data r m t)
+      byte (Data (suc m) t) (Data m t) (DataCr t) b (c ∷ xs) (step-data m t b e) (Turns.quiet-data r m t)
       (skip-data (c ∷ xs) m t (G.more e′ ms) (omega arith))
 
   skip-chunk : (xs : List ℕ) (t : ℕ) → 0 < length xs → length xs < 2 ^ 64 → Many octet? xs → t + length xs ≤ r
@@ -172,15 +128,15 @@ module _ (r : ℕ) where
       (Line First 0 (t + length xs))
       13 (10 ∷ (xs ++ (13 ∷ 10 ∷ [])))
       (step-line-cr (valueFrom 0 (numeral 16 (length xs))) (length (numeral 16 (length xs))) t ∙ ap (λ (w : ℕ). LineFeed w t) v)
-      (quiet-feed r (length xs) t)
+      (Turns.quiet-feed r (length xs) t)
       (byte (LineFeed (length xs) t) (Data (length xs - 1) (t + length xs)) (Line First 0 (t + length xs)) 10 (xs ++ (13 ∷ 10 ∷ []))
-      (step-line-lf (length xs) t ∙ enter-data (length xs) t z) (quiet-data r (length xs - 1) (t + length xs))
+      (Turns.feed-lf 10 (length xs) t refl ∙ Turns.enter-data (length xs) t z) (Turns.quiet-data r (length xs - 1) (t + length xs))
       (then (Data (length xs - 1) (t + length xs)) (DataCr (t + length xs)) (Line First 0 (t + length xs)) xs (13 ∷ 10 ∷ [])
       (skip-data xs (length xs - 1) (t + length xs) m (omega arith))
-      (byte (DataCr (t + length xs)) (DataLf (t + length xs)) (Line First 0 (t + length xs)) 13 (10 ∷ []) (step-ends (t + length xs) .0)
-      (quiet-ends r (t + length xs) .1)
-      (byte (DataLf (t + length xs)) (Line First 0 (t + length xs)) (Line First 0 (t + length xs)) 10 [] (step-ends (t + length xs) .1)
-      (quiet-line r (t + length xs))
+      (byte (DataCr (t + length xs)) (DataLf (t + length xs)) (Line First 0 (t + length xs)) 13 (10 ∷ []) (Turns.data-cr 13 (t + length xs) refl)
+      (Turns.quiet-data-lf r (t + length xs))
+      (byte (DataLf (t + length xs)) (Line First 0 (t + length xs)) (Line First 0 (t + length xs)) 10 [] (Turns.data-lf 10 (t + length xs) refl)
+      (Turns.quiet-first r (t + length xs))
       (stay (Line First 0 (t + length xs))))))))
 
   zero-hex : hex? 48 ≡ true
@@ -190,32 +146,32 @@ module _ (r : ℕ) where
   skip-end : (t : ℕ) → t ≤ r → Skips (Line First 0 t) (48 ∷ 13 ∷ 10 ∷ 13 ∷ []) (EndLf t)
   skip-end t l =
       byte (Line First 0 t) (Line (Size 0) 1 t) (EndLf t) 48 (13 ∷ 10 ∷ 13 ∷ []) (step-first 48 t zero-hex)
-      (quiet-size r 0 1 t (omega arith) (omega arith))
-      (byte (Line (Size 0) 1 t) (LineFeed 0 t) (EndLf t) 13 (10 ∷ 13 ∷ []) (step-line-cr 0 1 t) (quiet-feed r 0 t)
-      (byte (LineFeed 0 t) (Trail Start 0 t) (EndLf t) 10 (13 ∷ []) (step-line-lf 0 t ∙ enter-last t) (quiet-ends r t .3)
-      (byte (Trail Start 0 t) (EndLf t) (EndLf t) 13 [] (step-ends t .2) (quiet-ends r t .2) (stay (EndLf t)))))
+      (Turns.size-quiet r 0 1 t (λ z. omega arith) (omega arith))
+      (byte (Line (Size 0) 1 t) (LineFeed 0 t) (EndLf t) 13 (10 ∷ 13 ∷ []) (step-line-cr 0 1 t) (Turns.quiet-feed r 0 t)
+      (byte (LineFeed 0 t) (Trail (trailer .begin) 0 t) (EndLf t) 10 (13 ∷ []) (Turns.feed-lf 10 0 t refl ∙ Turns.enter-last 0 t refl) (Turns.quiet-trailer r t)
+      (byte (Trail (trailer .begin) 0 t) (EndLf t) (EndLf t) 13 [] (Turns.trail-close 13 (trailer .begin) 0 t refl) (Turns.quiet-end r t) (stay (EndLf t)))))
 
-  scan-end : (t i : ℕ) → t ≤ r → scan step (judge r) (Line First 0 t) i end ≡ stop (i + 4) (ended t)
+  scan-end : (t i : ℕ) → t ≤ r → scan step (judge r) (Line First 0 t) i end ≡ stop (i + 4) (ended (record { length = t }))
   scan-end t i l =
       skip-end t l i (10 ∷ [])
-      ∙ ap (λ (z : State). note (i + 4) (judge r z) (scan step (judge r) z (suc (i + 4)) [])) (step-ends t .3)
-      ∙ ap (λ (v : Option Verdict). note (i + 4) v (scan step (judge r) (Done t) (suc (i + 4)) [])) (ends r t)
+      ∙ ap (λ (z : State). note (i + 4) (judge r z) (scan step (judge r) z (suc (i + 4)) [])) (Turns.end-lf 10 t refl)
+      ∙ ap (λ (v : Option (Verdict End)). note (i + 4) v (scan step (judge r) (Done t) (suc (i + 4)) [])) (Turns.ended-done r t)
 
   scan-framed : (pieces : List (List ℕ)) (t i j : ℕ) → Pieces pieces → length (joined pieces) < 2 ^ 64 → t + length (joined pieces) ≤ r
       → i + length (framed pieces) ≡ suc j
-      → scan step (judge r) (Line First 0 t) i (framed pieces) ≡ stop j (ended (t + length (joined pieces)))
+      → scan step (judge r) (Line First 0 t) i (framed pieces) ≡ stop j (ended (record { length = t + length (joined pieces) }))
   unfolding framed joined
   scan-framed [] t i j Bodies.none small l e =
       let n : i + 4 ≡ j = omega arith in
       let m : t ≡ t + 0 = omega arith in
-      scan-end t i (omega arith) ∙ ap₂ (λ (k u : ℕ). stop k (ended u)) n m
+      scan-end t i (omega arith) ∙ ap₂ (λ (k u : ℕ). stop k (ended (record { length = u }))) n m
   scan-framed (xs ∷ pieces) t i j (Bodies.more z m ps) small l e =
       let n : length (xs ++ joined pieces) ≡ length xs + length (joined pieces) = length-append xs (joined pieces) in
       let u : t + length xs + length (joined pieces) ≡ t + length (xs ++ joined pieces) = omega arith in
       skip-chunk xs t z (omega arith) m (omega arith) i (framed pieces)
       ∙ scan-framed pieces (t + length xs) (i + length (chunk xs)) j ps (omega arith) (omega arith)
       (omega (arith, length-append (chunk xs) (framed pieces)))
-      ∙ ap (λ (k : ℕ). stop j (ended k)) u
+      ∙ ap (λ (k : ℕ). stop j (ended (record { length = k }))) u
 
   framed-some-byte : (pieces : List (List ℕ)) → 0 < length (framed pieces)
   unfolding framed
@@ -224,11 +180,11 @@ module _ (r : ℕ) where
 
   -- a frame of any pieces is read whole
   pub reads-framed : (pieces : List (List ℕ)) → Pieces pieces → length (joined pieces) < 2 ^ 64 → length (joined pieces) ≤ r
-      → decode r (framed pieces) ≡ whole (length (framed pieces)) (length (joined pieces))
-  unfolding decode answer
+      → decode r (framed pieces) ≡ whole (record { taken = length (framed pieces); length = length (joined pieces) })
+  unfolding decode found answer
   reads-framed pieces ps small l =
       let some : 0 < length (framed pieces) = framed-some-byte pieces in
       let e : 0 + length (framed pieces) ≡ suc (length (framed pieces) - 1) = omega arith in
       let s : suc (length (framed pieces) - 1) ≡ length (framed pieces) = omega arith in
       let t : 0 + length (joined pieces) ≡ length (joined pieces) = omega arith in
-      ap answer (scan-framed pieces 0 0 (length (framed pieces) - 1) ps small (omega arith) e) ∙ ap₂ whole s t
+      ap (answer tell) (scan-framed pieces 0 0 (length (framed pieces) - 1) ps small (omega arith) e) ∙ ap₂ (λ (n k : ℕ). whole (tell n (record { length = k }))) s t

@@ -25,7 +25,7 @@ use Rattle.chunked.specs.declared.LastLine.{LastLine}
 use Rattle.chunked.specs.declared.Found.the-variants as Found
 use Rattle.chunked.specs.helpers.Passes.{At, LineAt, LineRead, Known, CrlfAt, ChunkAt, ChunkRead}
 use Rattle.chunked.proofs.Passes.{at-next, at-more, at-refuse, data-fits}
-use Rattle.chunked.proofs.Turns as Turns
+use Rattle.framing.proofs.Turns as Turns
 
 module _ {room : ℕ} {xs : List ℕ} where
   -- ## A known line

@@ -9,15 +9,19 @@ use lib.ListN.{length, getD, take, drop, length-append, length-drop}
 use lib.Seq.{getD-drop, length-take-le, take-add, drop-drop, take-at, drop-append-add}
 use borrow.Author.Tests.{le-leb}
 use Rattle.octets.specs.Bytes.{octet?}
+use Rattle.numerals.specs.Numeral.{put}
+use Rattle.copying.proofs.Runs.{put-part}
 use Rattle.framing.specs.Answer as Framing
 use Rattle.framing.specs.Grammar as G
 use Rattle.framing.specs.Grammar.{Many}
 use Rattle.framing.specs.declared.LinePos.the-variants.{First}
 use Rattle.framing.specs.declared.State.{State}
 use Rattle.framing.specs.declared.State.the-variants.{Line, Data, DataCr}
-use Rattle.framing.specs.helpers.Machine.{step, emit, start}
-use Rattle.framing.specs.helpers.Scan.{ended, stop, out, scan, written}
-use Rattle.framing.specs.Reading.{judge, decode, decoded, decode-output}
+use Rattle.framing.specs.declared.Whole.{Whole}
+use Rattle.framing.specs.Demand.{nothing}
+use Rattle.framing.specs.helpers.Machine.{End, step, emit, start, tell}
+use Rattle.framing.specs.helpers.Scan.{Verdict, ended, Found, stop, out, written}
+use Rattle.framing.specs.Reading.{judge, found, decode, decoded, decode-output}
 use Rattle.framing.proofs.Scanning.{out-append, Stops, stop-stops}
 use Rattle.framing.proofs.Machines.{whole-of}
 use Rattle.framing.proofs.Goes.{goes-data}
@@ -100,33 +104,39 @@ module _ {room : ℕ} {xs : List ℕ} where
         ∙ ap (λ (z : List ℕ). z ++ take v (drop j xs)) (no-new j at le (omega (arith, line-total at, data-total here)))
 
 -- ## Where the answer is whole
-module _ (room : ℕ) (xs : List ℕ) {taken len : ℕ} (w : decode room xs ≡ Framing.whole taken len) where
-  whole-length : length (decoded room xs) ≡ len
+module _ (room : ℕ) (xs : List ℕ) {w : Whole} (e : decode room xs ≡ Framing.whole w) where
+  whole-length : length (decoded room xs) ≡ w .length
   whole-length =
-      let b = demands .whole room xs taken len .0 w in
-      ap length (demands .writes room xs taken len (b .0) (b .1)) ∙ sym (b .1 .len)
+      let b = demands .whole room xs w .0 e in
+      ap length (demands .writes room xs w (b .0) (b .1)) ∙ sym (b .1 .tells .joined)
 
-  whole-data : decoded room xs ≡ dataTo xs taken
-  unfolding decoded written
-  whole-data = ap (λ (a : Framing.Answer). written (out step emit start) a xs) w
-
-  reach : {s : State} {i : ℕ} → At room xs s i → i ≤ taken
+  -- the byte that ended the body
+  last-byte : (i : ℕ) × (end : End) × (found room xs ≡ stop i (ended end)) × (w ≡ tell (suc i) end)
   unfolding decode
-  reach {s} {i} at =
-      let f : (k : ℕ) × (scan step (judge room) start 0 xs ≡ stop k (ended len)) × (taken ≡ suc k)
-      = whole-of (scan step (judge room) start 0 xs) taken len w in
-      let t : Stops step (judge room) start xs (f .0) (ended len)
-      = stop-stops step (judge room) start xs (begins room) (f .0) (ended len) (f .1) in
-      go (f .0) (f .2) t (decLe (suc (f .0)) i)
-    where
-      go : (k : ℕ) → taken ≡ suc k → Stops step (judge room) start xs k (ended len) → Dec (suc k ≤ i) → i ≤ taken
-      go k e t (yes h) = let q : none ≡ some (ended len) = sym (at .quiet (suc k) h) ∙ t .verdict in
-          let z : _≡_ {A = ℕ} 0 1 = cc in absurd (omega arith)
-      go k e t (no h) = omega arith
+  last-byte = whole-of tell (found room xs) w e
 
-  all-data : {t i : ℕ} → At room xs (Line First 0 t) i → len ≤ t → decoded room xs ≡ dataTo xs i
+  taken : w .taken ≡ suc (last-byte .0)
+  taken = ap (λ (z : Whole). z .taken) (last-byte .3)
+
+  whole-data : decoded room xs ≡ dataTo xs (w .taken)
+  unfolding decoded written
+  whole-data =
+      ap (λ (z : Found (Verdict End)). written nothing (out step emit start) z xs) (last-byte .2)
+      ∙ ap (λ (n : ℕ). dataTo xs n) (sym taken)
+
+  reach : {s : State} {i : ℕ} → At room xs s i → i ≤ w .taken
+  unfolding found
+  reach {s} {i} at = go (last-byte .0) (last-byte .1) taken
+      (stop-stops step (judge room) start xs (begins room) (last-byte .0) (ended (last-byte .1)) (last-byte .2)) (decLe (suc (last-byte .0)) i)
+    where
+      go : (k : ℕ) (end : End) → w .taken ≡ suc k → Stops step (judge room) start xs k (ended end) → Dec (suc k ≤ i) → i ≤ w .taken
+      go k end e t (yes h) = let q : none ≡ some (ended end) = sym (at .quiet (suc k) h) ∙ t .verdict in
+          let z : _≡_ {A = ℕ} 0 1 = cc in absurd (omega arith)
+      go k end e t (no h) = omega arith
+
+  all-data : {t i : ℕ} → At room xs (Line First 0 t) i → w .length ≤ t → decoded room xs ≡ dataTo xs i
   all-data {t} {i} at h =
-      whole-data ∙ no-new taken at (reach at) (omega (arith, line-total at, whole-length, ap length whole-data))
+      whole-data ∙ no-new (w .taken) at (reach at) (omega (arith, line-total at, whole-length, ap length whole-data))
 
 -- ## The lent bytes
 module _ {xs old : List ℕ} where
@@ -158,17 +168,19 @@ module _ {xs old : List ℕ} where
 
   -- a chunk's data put behind what is there
   pub copied-on : ((k : ℕ) → getD xs k 0 < 256) → {new : List ℕ} {i o w v : ℕ} (y : List ℕ) → Copied xs old new i o → ChunkAt xs i w v
-      → o + v ≤ length old → y ≡ take (i + w + v - (i + w)) (drop (i + w) xs)
+      → o + v ≤ length old → y ≡ put (take (i + w + v - (i + w)) (drop (i + w) xs)) (take (o + v - o) (drop o new))
       → Copied xs old (take o new ++ (y ++ drop (o + v - o) (drop o new))) (i + w + v + 2) (o + v)
   copied-on bytes {new} {i} {o} {w} {v} y h c fits e =
       let a : i + w + v - (i + w) ≡ v = omega arith in
       let b : o + v - o ≡ v = omega arith in
       let end : At (length old) xs (Line First 0 (o + v)) (i + w + v + 2) = chunk-on bytes (h .at) c fits in
+      let d : y ≡ take (i + w + v - (i + w)) (drop (i + w) xs) =
+      e ∙ put-part new xs o (i + w) v (copied-fits h (omega (arith, first-fits (h .at)))) (omega (arith, c .end .inside)) in
       record {
         at = end;
         wrote = ap₂ (λ (x y : List ℕ). x ++ y)
             (ap (take o) (h .wrote) ∙ take-at (dataTo xs i) (drop o old) o (sym (line-total (h .at))))
-            (ap₂ (λ (x : List ℕ) (k : ℕ). x ++ drop k (drop o new)) (e ∙ ap (λ (k : ℕ). take k (drop (i + w) xs)) a) b
+            (ap₂ (λ (x : List ℕ) (k : ℕ). x ++ drop k (drop o new)) (d ∙ ap (λ (k : ℕ). take k (drop (i + w) xs)) a) b
             ∙ ap (λ (x : List ℕ). take v (drop (i + w) xs) ++ x) (drop-drop v o new ∙ kept v h))
             ∙ sym (append-assoc (dataTo xs i) (take v (drop (i + w) xs)) (drop (o + v) old))
             ∙ ap (λ (x : List ℕ). x ++ drop (o + v) old)
@@ -178,34 +190,32 @@ module _ {xs old : List ℕ} where
 
   -- the same of a chunk that was read
   pub read-copied-on : ((k : ℕ) → getD xs k 0 < 256) → {new : List ℕ} {i o j v : ℕ} (y : List ℕ) → Copied xs old new i o → i ≤ j
-      → o + v ≤ length old → ChunkAt xs i (j - i) v → y ≡ take (j + v - j) (drop j xs)
+      → o + v ≤ length old → ChunkAt xs i (j - i) v → y ≡ put (take (j + v - j) (drop j xs)) (take (o + v - o) (drop o new))
       → Copied xs old (take o new ++ (y ++ drop (o + v - o) (drop o new))) (j + v + 2) (o + v)
   read-copied-on bytes {new} {i} {o} {j} {v} y h le fits c e =
       let k : i + (j - i) ≡ j = omega arith in
       subst (λ (n : ℕ). Copied xs old (take o new ++ (y ++ drop (o + v - o) (drop o new))) (n + v + 2) (o + v)) k
-      (copied-on bytes y h c fits (e ∙ ap (λ (n : ℕ). take (n + v - n) (drop n xs)) (sym k)))
+      (copied-on bytes y h c fits (e ∙ ap (λ (n : ℕ). put (take (n + v - n) (drop n xs)) (take (o + v - o) (drop o new))) (sym k)))
 
-  module _ {taken len : ℕ} (w : decode (length old) xs ≡ Framing.whole taken len) where
-    pub copied-all : {new : List ℕ} {i o : ℕ} → Copied xs old new i o → len ≤ o → new ≡ decode-output xs old
+  module _ {w : Whole} (e : decode (length old) xs ≡ Framing.whole w) where
+    pub copied-all : {new : List ℕ} {i o : ℕ} → Copied xs old new i o → w .length ≤ o → new ≡ decode-output xs old
     unfolding decode-output
     copied-all {new} {i} {o} h le =
-        let d : decoded (length old) xs ≡ dataTo xs i = all-data (length old) xs w (h .at) le in
+        let d : decoded (length old) xs ≡ dataTo xs i = all-data (length old) xs e (h .at) le in
         h .wrote
         ∙ ap (λ (n : ℕ). dataTo xs i ++ drop n old) (line-total (h .at))
         ∙ ap (λ (z : List ℕ). z ++ drop (length z) old) (sym d)
 
 module _ (xs old : List ℕ) where
   -- any other answer leaves them
-  kept-other : ((n k : ℕ) → decode (length old) xs ≡ Framing.whole n k → ⊥) → old ≡ decode-output xs old
-  unfolding decode-output
-  kept-other f = ap (λ (z : List ℕ). z ++ drop (length z) old) (sym (demands .keeps (length old) xs f))
-
   module _ {a : Answer} (e : verdict a ≡ decode (length old) xs) where
     pub kept-more : a ≡ More → old ≡ decode-output xs old
-    kept-more f = kept-other (λ n k h. let z : Framing.more ≡ Framing.whole n k = ap verdict (sym f) ∙ e ∙ h in
-        let y : _≡_ {A = ℕ} 0 1 = cc in absurd (omega arith))
+    unfolding decode-output
+    kept-more f =
+        ap (λ (z : List ℕ). z ++ drop (length z) old) (sym (demands .keeps-more (length old) xs (sym e ∙ ap verdict f)))
 
     pub kept-refused : {r : Refusal} → a ≡ Refused r → old ≡ decode-output xs old
-    kept-refused {r} f = kept-other (λ n k h.
-        let z : Framing.refused (r .number) (r .place) ≡ Framing.whole n k = ap verdict (sym f) ∙ e ∙ h in
-        let y : _≡_ {A = ℕ} 0 1 = cc in absurd (omega arith))
+    unfolding decode-output
+    kept-refused {r} f =
+        ap (λ (z : List ℕ). z ++ drop (length z) old)
+        (sym (demands .keeps-refused (length old) xs (r .number) (r .place) (sym e ∙ ap verdict f)))

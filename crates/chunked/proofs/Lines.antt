@@ -20,15 +20,15 @@ use Rattle.framing.specs.declared.LinePos.the-variants.{First, Size, Ext}
 use Rattle.framing.specs.declared.TrailPos.{TrailPos}
 use Rattle.framing.specs.declared.TrailPos.the-variants as TrailPos
 use Rattle.framing.specs.declared.State.the-variants.{Line, LineFeed, Data, Trail, EndLf}
-use Rattle.framing.specs.helpers.Machine.{extStep, extEnds, extLive, lineStep, lineEnds, trailStep, trailEnds, trailLive, step, live}
+use Rattle.framing.specs.helpers.Machine.{extStep, extEnds, extLive, lineStep, lineEnds, trailStep, trailEnds, trailLive}
+use Rattle.framing.specs.helpers.Machine.{step, live, tell}
 use Rattle.framing.specs.Reading.{decode}
 use Rattle.framing.proofs.Cases.{false-true}
-use Rattle.chunked.specs.declared.Sized.the-variants as Sized
 use Rattle.framing.proofs.Scanning.{run-append}
 use Rattle.framing.proofs.Lines.{lineRun, line-complete}
 use Rattle.chunked.specs.helpers.Passes.{At, SizeRead, LineAt}
 use Rattle.chunked.proofs.Passes.{at-next, at-refuse, at-end, first-fits, line-short}
-use Rattle.chunked.proofs.Turns as Turns
+use Rattle.framing.proofs.Turns as Turns
 
 -- ## Digits
 hex-small : ℕ → Bool
@@ -125,7 +125,7 @@ module _ {room : ℕ} {xs : List ℕ} {i t : ℕ} where
         (Turns.dead-refused room (step (Line (h .pos) (j - i) t) b)
         (ap (λ (p : LinePos). live (step (Line p (j - i) t) b)) (h .first z) ∙ Turns.first-other b (j - i) t (no-hex b d e small big)))
 
-    pub size-read : b < 256 → 15 < d → (j ≡ i → ⊥) → SizeRead room xs i t (Sized.Digits v j)
+    pub size-read : b < 256 → 15 < d → (j ≡ i → ⊥) → SizeRead room xs i t v j
     size-read small big z = (
       h .starts,
       lt,
@@ -170,7 +170,7 @@ module _ {room : ℕ} {xs : List ℕ} {i t : ℕ} where
             }
 
   -- ## Behind the digits
-  pub ext-start : {v j : ℕ} → SizeRead room xs i t (Sized.Digits v j) → InExt room xs i t v ExtPos.Between j
+  pub ext-start : {v j : ℕ} → SizeRead room xs i t v j → InExt room xs i t v ExtPos.Between j
   ext-start {v} {j} h = record {
     starts = h .0;
     pos = Size v;
@@ -288,5 +288,5 @@ module _ {room : ℕ} {xs : List ℕ} where
     pub close-refused : (getD xs k 0 ≡ 10 → ⊥) → Framing.refused 1 k ≡ decode room xs
     close-refused h = at-refuse at lt (Turns.end-other (getD xs k 0) t h) (Turns.no-more room)
 
-    pub close-whole : getD xs k 0 ≡ 10 → Framing.whole (k + 1) t ≡ decode room xs
+    pub close-whole : getD xs k 0 ≡ 10 → Framing.whole (tell (k + 1) (record { length = t })) ≡ decode room xs
     close-whole h = at-end at lt (Turns.end-lf (getD xs k 0) t h) (Turns.ended-done room t)

@@ -13,16 +13,18 @@ use Rattle.framing.specs.declared.State.{State}
 use Rattle.framing.specs.declared.LinePos.{LinePos}
 use Rattle.framing.specs.declared.LinePos.the-variants.{First}
 use Rattle.framing.specs.declared.State.the-variants.{Line, LineFeed, Data}
-use Rattle.framing.specs.helpers.Machine.{step, live, done, over, lineLive, pastRoom, start}
+use Rattle.framing.specs.helpers.Machine.{End, step, live, done, over, lineLive, pastRoom, start, tell}
 use Rattle.framing.specs.helpers.Scan.{Verdict, ended, refusal, stop, run, scan, answer, Quiet}
-use Rattle.framing.specs.Reading.{judge, decode}
+use Rattle.framing.specs.Reading.{judge, found, decode}
 use Rattle.framing.proofs.Scanning.{run-append, quiet-on, quiet-going, stops-stop}
-use Rattle.framing.proofs.Judging.{quiet-in}
+use Rattle.framing.specs.Grammar.{limits}
+use Rattle.framing.proofs.Judging.{quiet-fits, quiet-line}
 use Rattle.chunked.specs.declared.Answer.{Answer}
-use Rattle.chunked.specs.declared.Answer.the-variants.{Whole, More}
+use Rattle.chunked.specs.declared.Answer.the-variants as Answer
+use Rattle.framing.specs.declared.Whole.{Whole}
 use Rattle.chunked.specs.Verdict.{verdict}
 use Rattle.chunked.specs.helpers.Passes.{At, Last}
-use Rattle.framing.proofs.Rooms.{sizeOf, InRoom}
+use Rattle.framing.proofs.Rooms.{sizeOf, Fits, ShortLine}
 
 pub begins : (room : ℕ) → judge room start ≡ none
 unfolding judge live lineLive done over pastRoom
@@ -37,20 +39,24 @@ module _ {room : ℕ} {xs : List ℕ} where
       first (suc i) l = absurd (omega arith)
 
   module _ {s : State} {i : ℕ} (at : At room xs s i) where
-    pub at-fits : InRoom room s
-    unfolding judge
-    at-fits = subst (InRoom room) (at .reached) (quiet-in room (take i xs) short)
-      where
-        short : (k : ℕ) → k ≤ length (take i xs) → judge room (run step start (take k (take i xs))) ≡ none
-        short k l =
-            let h : k ≤ i = omega (arith, l, length-take-le i xs (at .within)) in
-            ap (λ (z : List ℕ). judge room (run step start z)) (take-take k i xs h) ∙ at .quiet k h
+    before : (k : ℕ) → k ≤ length (take i xs) → judge room (run step start (take k (take i xs))) ≡ none
+    before k l =
+        let h : k ≤ i = omega (arith, l, length-take-le i xs (at .within)) in
+        ap (λ (z : List ℕ). judge room (run step start z)) (take-take k i xs h) ∙ at .quiet k h
+
+    at-fits : Fits room s
+    unfolding judge over
+    at-fits = subst (Fits room) (at .reached) (quiet-fits limits room (omega arith) (take i xs) before)
+
+    at-short : ShortLine s
+    unfolding judge over
+    at-short = subst ShortLine (at .reached) (quiet-line limits room (omega arith) (take i xs) before)
 
     pub at-more : length xs ≤ i → Framing.more ≡ decode room xs
-    unfolding decode answer
+    unfolding decode found answer
     at-more h =
         let e : i ≡ length xs = omega (arith, at .within, h) in
-        sym (ap answer (quiet-going step (judge room) start xs (begins room) (subst (Quiet step (judge room) start xs) e (at .quiet))))
+        sym (ap (answer tell) (quiet-going step (judge room) start xs (begins room) (subst (Quiet step (judge room) start xs) e (at .quiet))))
 
     module _ (lt : i < length xs) where
       onward : run step start (take (suc i) xs) ≡ step s (getD xs i 0)
@@ -67,45 +73,48 @@ module _ {room : ℕ} {xs : List ℕ} where
           reached = onward ∙ e;
         })
 
-        at-stop : (v : Verdict) → judge room n ≡ some v → scan step (judge room) start 0 xs ≡ stop i v
+        at-stop : (v : Verdict End) → judge room n ≡ some v → scan step (judge room) start 0 xs ≡ stop i v
         at-stop v h = stops-stop step (judge room) start xs (begins room) i v
             (record { inside = lt; quiet = at .quiet; verdict = ap (judge room) (onward ∙ e) ∙ h })
 
         pub at-refuse : {m : ℕ} → judge room n ≡ some (refusal m) → Framing.refused m i ≡ decode room xs
-        unfolding decode answer
-        at-refuse {m} h = sym (ap answer (at-stop (refusal m) h))
+        unfolding decode found answer
+        at-refuse {m} h = sym (ap (answer tell) (at-stop (refusal m) h))
 
-        pub at-end : {t : ℕ} → judge room n ≡ some (ended t) → Framing.whole (i + 1) t ≡ decode room xs
-        unfolding decode answer
-        at-end {t} h = ap (λ (k : ℕ). Framing.whole k t) (add-one i) ∙ sym (ap answer (at-stop (ended t) h))
+        pub at-end : {e : End} → judge room n ≡ some (ended e) → Framing.whole (tell (i + 1) e) ≡ decode room xs
+        unfolding decode found answer
+        at-end {e} h = ap (λ (k : ℕ). Framing.whole (tell k e)) (add-one i) ∙ sym (ap (answer tell) (at-stop (ended e) h))
 
   pub line-fits : {p : LinePos} {k t i : ℕ} → At room xs (Line p k t) i → t + sizeOf p ≤ room
-  unfolding InRoom
-  line-fits at = at-fits at .1
+  unfolding Fits
+  line-fits at = at-fits at
 
   pub line-short : {p : LinePos} {k t i : ℕ} → At room xs (Line p k t) i → k ≤ LINE_LIMIT
-  unfolding InRoom
-  line-short at = at-fits at .0
+  unfolding ShortLine
+  line-short at = at-short at
 
   pub first-fits : {t i : ℕ} → At room xs (Line First 0 t) i → t ≤ room
   unfolding sizeOf
   first-fits at = omega (arith, line-fits at)
 
   pub feed-fits : {v t i : ℕ} → At room xs (LineFeed v t) i → t + v ≤ room
-  unfolding InRoom
+  unfolding Fits
   feed-fits at = at-fits at
 
   pub data-fits : {m t i : ℕ} → At room xs (Data m t) i → t ≤ room
-  unfolding InRoom
+  unfolding Fits
   data-fits at = at-fits at
 
   -- ## Answers
-  pub last-more : {t : ℕ} → Framing.more ≡ decode room xs → Last room xs t More
-  last-more e = record { is = e; total = λ n k h. let z : _≡_ {A = ℕ} 0 1 = cc in absurd (omega arith) }
+  pub last-more : {t : ℕ} → Framing.more ≡ decode room xs → Last room xs t Answer.More
+  last-more e = record { is = e; total = λ w h. let z : _≡_ {A = ℕ} 0 1 = cc in absurd (omega arith) }
 
   pub last-refused : {t : ℕ} {a : Answer} {m i : ℕ} → verdict a ≡ Framing.refused m i → Framing.refused m i ≡ decode room xs
       → Last room xs t a
-  last-refused f e = record { is = f ∙ e; total = λ n k h. let z : _≡_ {A = ℕ} 0 1 = cc in absurd (omega arith) }
+  last-refused f e = record { is = f ∙ e; total = λ w h. let z : _≡_ {A = ℕ} 0 1 = cc in absurd (omega arith) }
 
-  pub last-whole : {t i : ℕ} → Framing.whole i t ≡ decode room xs → Last room xs t (Whole i t)
-  last-whole {t} {i} e = record { is = e; total = λ n k h. let z : Framing.whole i t ≡ Framing.whole n k = e ∙ h in cc }
+  pub last-whole : {w : Whole} → Framing.whole w ≡ decode room xs → Last room xs (w .length) (Answer.Whole w)
+  last-whole {w} e = record { is = e; total = λ v h. let z : Framing.whole w ≡ Framing.whole v = e ∙ h in same z }
+    where
+      same : {v : Whole} → Framing.whole w ≡ Framing.whole v → v .length ≡ w .length
+      same z = cc

@@ -1,39 +1,32 @@
 // Reads chunked bodies in two passes over the input: the first decides, the second copies the data of a body that is whole.
 ghost use mathlib.Core.Path.{_≡_};
-ghost use mathlib.Core.Bool.{true, cond, _&&_};
-ghost use lib.Dec.{eqb};
+ghost use mathlib.Core.Bool.{true};
 ghost use mathlib.Core.List.{[], _∷_};
 ghost use Prim.Native.Nat.{ℕ, _+_, _-_, _<_, _≤_};
 ghost use lib.ListN.{length};
-ghost use Rattle.framing.specs.Answer.{whole, refused};
+ghost use Rattle.framing.specs.Answer.{refused};
 ghost use Rattle.framing.specs.declared.LinePos.the-variants.{First};
 ghost use Rattle.framing.specs.declared.State.the-variants.{Line, LineFeed, Trail, EndLf};
-ghost use Rattle.framing.specs.helpers.Machine.{extStep, extEnds, extLive, trailStep, trailEnds, trailLive};
 ghost use Rattle.framing.specs.Reading.{decode-output, decode as decodeIn};
 ghost use Rattle.chunked.specs.Verdict.{verdict};
-ghost use Rattle.chunked.specs.helpers.Runs.{blockAt};
-ghost use Rattle.chunked.specs.helpers.Passes.{cr-byte, At, SizeRead, LineRead, Last, LineAt, Known, CrlfAt, ChunkAt, ChunkRead};
+ghost use Rattle.positions.specs.helpers.Ends.{cr-byte};
+ghost use Rattle.chunked.specs.helpers.Passes.{At, WholeOf, SizeRead, LineRead, Last, LineAt, Known, ChunkAt, ChunkRead};
 use framing::ExtPos;
 use framing::LINE_LIMIT;
 use framing::TRAILER_LIMIT;
 use framing::TrailPos;
+use framing::Whole;
 use octets::BODY_TOO_LARGE;
 use octets::LINE_TOO_LONG;
 use octets::MALFORMED;
 use octets::Refusal;
 use octets::TRAILER_TOO_LONG;
 
-// Whole: the bytes that the body takes, and the length of its data. More: the input may begin a body.
+// Whole: what is told of the body. More: the input may begin a body.
 pub enum Answer {
-    Whole { taken: usize, length: usize },
+    Whole(Whole),
     More,
     Refused(Refusal),
-}
-
-// What the digits of a chunk line come to: their value and the place behind them, or the answer.
-enum Sized {
-    Digits { value: usize, end: usize },
-    Over(Answer),
 }
 
 // What a chunk line comes to: the size and the place of the data behind it, or the answer.
@@ -63,8 +56,8 @@ pub fn decode(input: &[u8], out: &mut [u8]) -> Answer
 {
     let answer = decide(input, out.len());
     match answer {
-        Answer::Whole { taken: _, length } => {
-            copy(input, out, length);
+        Answer::Whole(body) => {
+            copy(input, out, body.length);
             answer
         }
         Answer::More => answer,
@@ -99,7 +92,7 @@ fn decide(input: &[u8], room: usize) -> Answer
 
 // Copies the data of a body that is whole: the second pass.
 fn copy(input: &[u8], out: &mut [u8], len: usize)
-    requires { ⌜ ((taken : ℕ) × (decodeIn (length (now out)) (now input) ≡ whole taken len)) ⌝ }
+    requires { ⌜ WholeOf (length (now out)) (now input) len ⌝ }
     ensures { λ _. ⌜ now (out .exit) ≡ decode-output (now (input .entry)) (now (out .entry)) ⌝ }
 {
     let room = out.len();
@@ -109,7 +102,7 @@ fn copy(input: &[u8], out: &mut [u8], len: usize)
     while written < len {
         if again(input, last, at, room - written) {
             let start = at + last.length;
-            copy_run(
+            copying::copy(
                 &mut out[written..written + last.size],
                 &input[start..start + last.size],
             );
@@ -119,7 +112,7 @@ fn copy(input: &[u8], out: &mut [u8], len: usize)
             match chunk(input, at, written, room) {
                 Found::Over(_) => return,
                 Found::Data { size, start } => {
-                    copy_run(
+                    copying::copy(
                         &mut out[written..written + size],
                         &input[start..start + size],
                     );
@@ -131,23 +124,6 @@ fn copy(input: &[u8], out: &mut [u8], len: usize)
             }
         }
     }
-}
-
-// Do CR and LF stand at `at`?
-fn crlf_at(input: &[u8], at: usize) -> bool
-    requires { ⌜ at ≤ length (now input) ⌝ }
-    ensures { λ r. ⌜ (r ≡ true → CrlfAt (now (input .entry)) at) ⌝ }
-{
-    if input.len() - at < 2 {
-        return false;
-    }
-    if input[at] != b'\r' {
-        return false;
-    }
-    if input[at + 1] != b'\n' {
-        return false;
-    }
-    true
 }
 
 // Does a chunk with the same line as the last one stand at `at` and fit into what is left of the room? Then nothing waits for the
@@ -166,7 +142,14 @@ fn again(input: &[u8], last: LastLine, at: usize, left: usize) -> bool
     if input.len() - at < taken {
         return false;
     }
-    if !crlf_at(input, at + taken) {
+    let end = at + taken;
+    if input.len() - end < 2 {
+        return false;
+    }
+    if input[end] != b'\r' {
+        return false;
+    }
+    if input[end + 1] != b'\n' {
         return false;
     }
     let line = last.at;
@@ -209,46 +192,36 @@ fn chunk(input: &[u8], at: usize, total: usize, room: usize) -> Found
     }
 }
 
-// Reads the chunk line at `at`, behind chunks with `total` bytes of data; and the trailer, if the line is the last.
-fn line(input: &[u8], at: usize, total: usize, room: usize) -> Found
-    requires { ⌜ At room (now input) (Line First 0 total) at ⌝ }
-    ensures { λ r. ⌜ LineRead room (now (input .entry)) at total r ⌝ }
-{
-    match size_digits(input, at, total, room) {
-        Sized::Over(answer) => Found::Over(answer),
-        Sized::Digits { value, end } => extensions(input, at, end, value, total, room),
-    }
-}
-
-// Reads the size digits of the line at `line`. No sum wraps: a digit that would pass the room is refused before it is added.
-fn size_digits(input: &[u8], line: usize, total: usize, room: usize) -> Sized
-    requires { ⌜ At room (now input) (Line First 0 total) line ⌝ }
-    ensures { λ r. ⌜ SizeRead room (now (input .entry)) line total r ⌝ }
+// Reads the chunk line at `start`, behind chunks with `total` bytes of data; and the trailer, if the line is the last. No sum wraps: a
+// digit that would pass the room is refused before it is added.
+fn line(input: &[u8], start: usize, total: usize, room: usize) -> Found
+    requires { ⌜ At room (now input) (Line First 0 total) start ⌝ }
+    ensures { λ r. ⌜ LineRead room (now (input .entry)) start total r ⌝ }
 {
     let left = room - total;
     let mut value = 0;
-    let mut at = line;
+    let mut at = start;
     while at < input.len() {
         let digit = octets::hex_value(input[at]) as usize;
         if digit > 15 {
-            if at == line {
-                return Sized::Over(refuse(MALFORMED, at));
+            if at == start {
+                return Found::Over(refuse(MALFORMED, at));
             }
-            return Sized::Digits { value, end: at };
+            return extensions(input, start, at, value, total, room);
         }
-        if at - line == LINE_LIMIT {
-            return Sized::Over(refuse(LINE_TOO_LONG, at));
+        if at - start == LINE_LIMIT {
+            return Found::Over(refuse(LINE_TOO_LONG, at));
         }
         if value > left / 16 {
-            return Sized::Over(refuse(BODY_TOO_LARGE, at));
+            return Found::Over(refuse(BODY_TOO_LARGE, at));
         }
         if digit > left - value * 16 {
-            return Sized::Over(refuse(BODY_TOO_LARGE, at));
+            return Found::Over(refuse(BODY_TOO_LARGE, at));
         }
         value = value * 16 + digit;
         at += 1;
     }
-    Sized::Over(Answer::More)
+    Found::Over(Answer::More)
 }
 
 // Reads the line at `line`, whose digits have the value `size` and end at `end`, on to its CR.
@@ -260,7 +233,7 @@ fn extensions(
     total: usize,
     room: usize,
 ) -> Found
-    requires { ⌜ SizeRead room (now input) line total (Sized.Digits size end) ⌝ }
+    requires { ⌜ SizeRead room (now input) line total size end ⌝ }
     ensures { λ r. ⌜ LineRead room (now (input .entry)) line total r ⌝ }
 {
     let mut pos = ExtPos::Between;
@@ -268,13 +241,13 @@ fn extensions(
     while at < input.len() {
         let byte = input[at];
         if byte == b'\r' {
-            if ext_ends(pos) {
+            if positions::ext_ends(pos) {
                 return line_feed(input, line, at + 1, size, total, room);
             }
             return Found::Over(refuse(MALFORMED, at));
         }
-        pos = ext_step(pos, byte);
-        if !ext_live(pos) {
+        pos = positions::ext_step(pos, byte);
+        if !positions::ext_live(pos) {
             return Found::Over(refuse(MALFORMED, at));
         }
         if at - line == LINE_LIMIT {
@@ -314,11 +287,11 @@ fn trailer(input: &[u8], start: usize, total: usize, room: usize) -> Answer
     let mut at = start;
     while at < input.len() {
         let byte = input[at];
-        if closes(pos, byte) {
+        if positions::closes(pos, byte) {
             return close(input, at + 1, total, room);
         }
-        pos = trail_step(pos, byte);
-        if !trail_live(pos) {
+        pos = positions::trail_step(pos, byte);
+        if !positions::trail_live(pos) {
             return refuse(MALFORMED, at);
         }
         if at - start == TRAILER_LIMIT {
@@ -340,201 +313,8 @@ fn close(input: &[u8], at: usize, total: usize, room: usize) -> Answer
     if input[at] != b'\n' {
         return refuse(MALFORMED, at);
     }
-    Answer::Whole {
+    Answer::Whole(Whole {
         taken: at + 1,
         length: total,
-    }
-}
-
-fn pick_ext(test: bool, yes: ExtPos, other: ExtPos) -> ExtPos
-    ensures { λ r. ⌜ r ≡ cond test yes other ⌝ }
-{
-    if test { yes } else { other }
-}
-
-// The position behind a byte of extensions.
-fn ext_step(pos: ExtPos, byte: u8) -> ExtPos
-    ensures { λ r. ⌜ r ≡ extStep pos byte ⌝ }
-{
-    let bad = ExtPos::Bad;
-    match pos {
-        ExtPos::Between => pick_ext(byte == b';', ExtPos::Name0, bad),
-        ExtPos::Name0 => pick_ext(octets::is_token(byte), ExtPos::Name, bad),
-        ExtPos::Name => {
-            let other = pick_ext(byte == b';', ExtPos::Name0, bad);
-            pick_ext(
-                octets::is_token(byte),
-                ExtPos::Name,
-                pick_ext(byte == b'=', ExtPos::Value0, other),
-            )
-        }
-        ExtPos::Value0 => pick_ext(
-            octets::is_token(byte),
-            ExtPos::Token,
-            pick_ext(byte == b'"', ExtPos::Quoted, bad),
-        ),
-        ExtPos::Token => pick_ext(
-            octets::is_token(byte),
-            ExtPos::Token,
-            pick_ext(byte == b';', ExtPos::Name0, bad),
-        ),
-        ExtPos::Quoted => {
-            let other = pick_ext(byte == b'"', ExtPos::Between, bad);
-            pick_ext(
-                octets::is_text(byte),
-                ExtPos::Quoted,
-                pick_ext(byte == b'\\', ExtPos::Pair, other),
-            )
-        }
-        ExtPos::Pair => pick_ext(octets::is_escaped(byte), ExtPos::Quoted, bad),
-        ExtPos::Bad => bad,
-    }
-}
-
-// May the line end there?
-fn ext_ends(pos: ExtPos) -> bool
-    ensures { λ r. ⌜ r ≡ extEnds pos ⌝ }
-{
-    match pos {
-        ExtPos::Between => true,
-        ExtPos::Name0 => false,
-        ExtPos::Name => true,
-        ExtPos::Value0 => false,
-        ExtPos::Token => true,
-        ExtPos::Quoted => false,
-        ExtPos::Pair => false,
-        ExtPos::Bad => false,
-    }
-}
-
-fn ext_live(pos: ExtPos) -> bool
-    ensures { λ r. ⌜ r ≡ extLive pos ⌝ }
-{
-    match pos {
-        ExtPos::Between => true,
-        ExtPos::Name0 => true,
-        ExtPos::Name => true,
-        ExtPos::Value0 => true,
-        ExtPos::Token => true,
-        ExtPos::Quoted => true,
-        ExtPos::Pair => true,
-        ExtPos::Bad => false,
-    }
-}
-
-fn pick_trail(test: bool, yes: TrailPos, other: TrailPos) -> TrailPos
-    ensures { λ r. ⌜ r ≡ cond test yes other ⌝ }
-{
-    if test { yes } else { other }
-}
-
-// The position behind a byte of the trailer.
-fn trail_step(pos: TrailPos, byte: u8) -> TrailPos
-    ensures { λ r. ⌜ r ≡ trailStep pos byte ⌝ }
-{
-    let wrong = TrailPos::Wrong;
-    match pos {
-        TrailPos::Start => pick_trail(octets::is_token(byte), TrailPos::Field, wrong),
-        TrailPos::Field => pick_trail(
-            octets::is_token(byte),
-            TrailPos::Field,
-            pick_trail(byte == b':', TrailPos::Content, wrong),
-        ),
-        TrailPos::Content => pick_trail(
-            octets::is_content(byte),
-            TrailPos::Content,
-            pick_trail(byte == b'\r', TrailPos::Feed, wrong),
-        ),
-        TrailPos::Feed => pick_trail(byte == b'\n', TrailPos::Start, wrong),
-        TrailPos::Wrong => wrong,
-    }
-}
-
-fn trail_live(pos: TrailPos) -> bool
-    ensures { λ r. ⌜ r ≡ trailLive pos ⌝ }
-{
-    match pos {
-        TrailPos::Start => true,
-        TrailPos::Field => true,
-        TrailPos::Content => true,
-        TrailPos::Feed => true,
-        TrailPos::Wrong => false,
-    }
-}
-
-// Is it the CR that closes the body?
-fn closes(pos: TrailPos, byte: u8) -> bool
-    ensures { λ r. ⌜ r ≡ trailEnds pos && eqb byte cr-byte ⌝ }
-{
-    match pos {
-        TrailPos::Start => byte == b'\r',
-        TrailPos::Field => false,
-        TrailPos::Content => false,
-        TrailPos::Feed => false,
-        TrailPos::Wrong => false,
-    }
-}
-
-// The 16 bytes of a block, by value: they are read before any is written, so that a copy is one wide move.
-fn block(src: &[u8]) -> [u8; 16]
-    requires { ⌜ length (now src) ≡ 16 ⌝ }
-    ensures { λ r. ⌜ r ≡ now (src .entry) ⌝ }
-{
-    let mut bytes = [0u8; 16];
-    let mut i = 0;
-    while i < 16 {
-        bytes[i] = src[i];
-        i += 1;
-    }
-    bytes
-}
-
-fn put_block(dst: &mut [u8], bytes: [u8; 16])
-    requires { ⌜ (length (now dst) ≡ 16) × (length bytes ≡ 16) ⌝ }
-    ensures { λ _. ⌜ now (dst .exit) ≡ bytes ⌝ }
-{
-    let mut i = 0;
-    while i < 16 {
-        dst[i] = bytes[i];
-        i += 1;
-    }
-}
-
-// Copies a run of bytes, one at a time.
-fn copy_bytes(dst: &mut [u8], src: &[u8])
-    requires { ⌜ length (now dst) ≡ length (now src) ⌝ }
-    ensures { λ _. ⌜ now (dst .exit) ≡ now (src .entry) ⌝ }
-{
-    let mut i = 0;
-    while i < src.len() {
-        dst[i] = src[i];
-        i += 1;
-    }
-}
-
-// Copies the block at `at`.
-fn copy_block(dst: &mut [u8], src: &[u8], at: usize)
-    requires { ⌜ (length (now dst) ≡ length (now src)) × (at + 16 ≤ length (now src)) ⌝ }
-    ensures { λ _. ⌜ now (dst .exit) ≡ blockAt (now (src .entry)) (now (dst .entry)) at ⌝ }
-{
-    let end = at + 16;
-    put_block(&mut dst[at..end], block(&src[at..end]));
-}
-
-// Copies a run of bytes by blocks. The last block may overlap the one before it.
-fn copy_run(dst: &mut [u8], src: &[u8])
-    requires { ⌜ length (now dst) ≡ length (now src) ⌝ }
-    ensures { λ _. ⌜ now (dst .exit) ≡ now (src .entry) ⌝ }
-{
-    let len = src.len();
-    if len < 16 {
-        copy_bytes(dst, src);
-        return;
-    }
-    let mut at = 0;
-    while len - at > 16 {
-        copy_block(dst, src, at);
-        at += 16;
-    }
-    copy_block(dst, src, len - 16);
+    })
 }

@@ -54,12 +54,12 @@ fn body_of(a: Answer) -> QzBody
     ensures { λ r. ⌜ r ≡ body-fields (verdict a) ⌝ }
 {
     match a {
-        Answer::Whole { taken, length } => QzBody {
+        Answer::Whole(body) => QzBody {
             state: WHOLE,
             number: 0,
             place: 0,
-            taken,
-            length,
+            taken: body.taken,
+            length: body.length,
         },
         Answer::More => QzBody {
             state: MORE,

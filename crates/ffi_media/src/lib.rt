@@ -2,25 +2,10 @@
 ghost use mathlib.Core.Path.{_≡_};
 ghost use mathlib.Core.List.{map};
 ghost use Rattle.grammar.specs.helpers.Judge.{header};
-ghost use Rattle.grammar.specs.Comparing.{outcome};
 ghost use Rattle.media.specs.Grammar.{rules as media-types};
-ghost use Rattle.media_equal.specs.Charset.{charsets};
-ghost use Rattle.media_equal.specs.Reading.{equality as media-equality, charset-verdict};
-ghost use Rattle.ffi.specs.Fields.{same-fields};
-ghost use Rattle.ffi_media.specs.Fields.{parameter-fields, media-fields, charset-read, charset-fields};
-use ffi::QzSame;
+ghost use Rattle.ffi_media.specs.Fields.{parameter-fields, media-fields};
 use media::Outcome;
 use media::Parameter;
-use media_equal::Charset;
-
-// QzCharset.kind where number is 0: there is none.
-pub const NO_CHARSET: u8 = 0;
-
-// It is the value of the parameter.
-pub const STATED_CHARSET: u8 = 1;
-
-// It is that of type `text` without the parameter.
-pub const ISO_8859_1: u8 = 2;
 
 // An attribute, and its value without its quotes; pairs stay as sent.
 #[repr(C)]
@@ -45,19 +30,6 @@ pub struct QzMedia {
     pub count: usize,
     // in the order sent; unused entries are zero
     pub parameters: [QzParameter; 16],
-}
-
-// The effective charset of a media type.
-#[repr(C)]
-pub struct QzCharset {
-    pub number: u8,
-    pub place: usize,
-    // QZ_NO_CHARSET, QZ_STATED_CHARSET or QZ_ISO_8859_1
-    pub kind: u8,
-    // of a stated charset, without its quotes
-    pub start: usize,
-    pub length: usize,
-    pub quoted: bool,
 }
 
 // How many entries QzMedia.parameters has.
@@ -105,23 +77,6 @@ pub extern "C" fn qz_media_read(s: &[u8]) -> QzMedia
     }
 }
 
-// Reads first `a`, then `b`; `same` where type, subtype and the set of parameters agree: names in any case, values
-// after unquoting, the value of `charset` in any case.
-#[no_mangle]
-pub extern "C" fn qz_media_equal(a: &[u8], b: &[u8]) -> QzSame
-    ensures { λ r. ⌜ r ≡ same-fields (media-equality (now (a .entry)) (now (b .entry))) ⌝ }
-{
-    ffi::same_of(media_equal::equal(a, b))
-}
-
-// The effective charset of a media type.
-#[no_mangle]
-pub extern "C" fn qz_media_charset(s: &[u8]) -> QzCharset
-    ensures { λ r. ⌜ r ≡ charset-fields (header charsets (now (s .entry))) ⌝ }
-{
-    charset_of(media_equal::effective_charset(s))
-}
-
 // The entries of the table, one by one.
 fn entries_of(table: [Parameter; 16]) -> [QzParameter; 16]
     ensures { λ r. ⌜ r ≡ map parameter-fields table ⌝ }
@@ -144,41 +99,5 @@ fn parameter_of(p: Parameter) -> QzParameter
         value_start: p.value_start,
         value_length: p.value_length,
         quoted: p.quoted,
-    }
-}
-
-fn charset_of(c: Charset) -> QzCharset
-    ensures { λ r. ⌜ r ≡ charset-fields (charset-verdict c) ⌝ }
-{
-    match c {
-        Charset::NotStated => charset(NO_CHARSET, 0, 0, false),
-        Charset::Stated {
-            start,
-            length,
-            quoted,
-        } => charset(STATED_CHARSET, start, length, quoted),
-        Charset::Latin1 => charset(ISO_8859_1, 0, 0, false),
-        Charset::Refused(r) => QzCharset {
-            number: r.number,
-            place: r.place,
-            kind: 0,
-            start: 0,
-            length: 0,
-            quoted: false,
-        },
-    }
-}
-
-// The charset of a media type that was read.
-fn charset(kind: u8, start: usize, length: usize, quoted: bool) -> QzCharset
-    ensures { λ r. ⌜ r ≡ charset-read kind start length quoted ⌝ }
-{
-    QzCharset {
-        number: 0,
-        place: 0,
-        kind,
-        start,
-        length,
-        quoted,
     }
 }

@@ -4,7 +4,7 @@ ghost use Rattle.grammar.specs.helpers.Judge.{header};
 ghost use Rattle.language.specs.Grammar.{rules as languages};
 ghost use Rattle.language.specs.Reading.{equality};
 ghost use Rattle.etag.specs.Grammar.{rules as etags};
-ghost use Rattle.etag.specs.Reading.{strong-matching, weak-matching};
+ghost use Rattle.etag_match.specs.Matching.{strong-matching, weak-matching};
 ghost use Rattle.ffi_tags.specs.Fields.{language-fields, etag-fields};
 ghost use Rattle.ffi.specs.Fields.{same-fields};
 use ffi::QzSame;
@@ -87,7 +87,7 @@ pub extern "C" fn qz_etag_read(s: &[u8]) -> QzTag
 pub extern "C" fn qz_etag_strong_match(a: &[u8], b: &[u8]) -> QzSame
     ensures { λ r. ⌜ r ≡ same-fields (strong-matching (now (a .entry)) (now (b .entry))) ⌝ }
 {
-    ffi::same_of(etag::strong_match(a, b))
+    ffi::same_of(etag_match::strong_match(a, b))
 }
 
 // Reads first `a`, then `b`; `same` where the quoted bytes are the same as sent.
@@ -95,5 +95,5 @@ pub extern "C" fn qz_etag_strong_match(a: &[u8], b: &[u8]) -> QzSame
 pub extern "C" fn qz_etag_weak_match(a: &[u8], b: &[u8]) -> QzSame
     ensures { λ r. ⌜ r ≡ same-fields (weak-matching (now (a .entry)) (now (b .entry))) ⌝ }
 {
-    ffi::same_of(etag::weak_match(a, b))
+    ffi::same_of(etag_match::weak_match(a, b))
 }

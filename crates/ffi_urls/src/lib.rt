@@ -3,7 +3,7 @@ ghost use mathlib.Core.Path.{_≡_};
 ghost use Rattle.grammar.specs.helpers.Judge.{header};
 ghost use Rattle.grammar.specs.Comparing.{compare as comparing};
 ghost use Rattle.url.specs.Grammar.{rules as urls};
-ghost use Rattle.url.specs.Meaning.{same-page, pages};
+ghost use Rattle.url_equal.specs.Meaning.{same-page, pages};
 ghost use Rattle.ffi.specs.Fields.{same-fields};
 ghost use Rattle.ffi_urls.specs.Fields.{url-fields, part-fields};
 use ffi::QzSame;
@@ -86,7 +86,7 @@ pub extern "C" fn qz_url_read(s: &[u8]) -> QzUrl
 pub extern "C" fn qz_url_equal(a: &[u8], b: &[u8]) -> QzSame
     ensures { λ r. ⌜ r ≡ same-fields (comparing same-page (header pages (now (a .entry))) (header pages (now (b .entry)))) ⌝ }
 {
-    ffi::same_of(url::equal(a, b))
+    ffi::same_of(url_equal::equal(a, b))
 }
 
 fn part_of(p: Place) -> QzPart

@@ -3,35 +3,39 @@ use mathlib.Core.Path.{_≡_, refl, sym, _∙_, ap, subst}
 use mathlib.Core.Bool.{true, false}
 use mathlib.Core.List.{List, [], _∷_, _++_, append-assoc}
 use Prim.Native.Nat.{ℕ}
+use native.Mathlib.Omega.{arith}
 use lib.Dec.{eqb}
 use borrow.Author.Tests.{eqb-true}
 use Rattle.framing.specs.declared.ExtPos.{ExtPos}
 use Rattle.framing.specs.declared.ExtPos.the-variants as ExtPos
 use Rattle.framing.specs.Grammar as G
-use Rattle.octets.specs.Bytes.{token?, text?, escaped?}
-use Rattle.framing.specs.Grammar.{Many, Some, Inside, Value, Extension, Extensions}
-use Rattle.framing.specs.helpers.Machine.{extStep, extEnds, extLive}
+use Rattle.octets.specs.Bytes.{hex?, token?, text?, escaped?}
+use Rattle.framing.specs.Grammar.{Many, Some, Value, Extension, Extensions}
+use Rattle.framing.specs.helpers.Machine.{extStep, extEnds, extLive, extensions}
 use Rattle.framing.specs.helpers.Scan.{run}
 use Rattle.framing.proofs.Scanning.{run-append, run-step}
 use Rattle.framing.proofs.Cases.{false-true, by-cond}
+use Rattle.framing.proofs.Parts.{Reads}
+use Rattle.framing.proofs.Quoted as Quoted
+use Rattle.framing.proofs.Quoted.{Spelled, spelled, inside}
 
-abbrev pub extRun : ExtPos → List ℕ → ExtPos
+abbrev extRun : ExtPos → List ℕ → ExtPos
 extRun = run extStep
 
 -- ## From the machine to the grammar: what each position still waits for
 
-pub data Tail : List ℕ → Type 0 where
+data Tail : List ℕ → Type 0 where
   no-value : {r : List ℕ} → Extensions r → Tail r
   value : {v r : List ℕ} → Value v → Extensions r → Tail (61 ∷ (v ++ r))
 
-pub data Rest : ExtPos → List ℕ → Type 0 where
+data Rest : ExtPos → List ℕ → Type 0 where
   between : {r : List ℕ} → Extensions r → Rest ExtPos.Between r
   name0 : {n r : List ℕ} → Some token? n → Tail r → Rest ExtPos.Name0 (n ++ r)
   name : {n r : List ℕ} → Many token? n → Tail r → Rest ExtPos.Name (n ++ r)
   value0 : {v r : List ℕ} → Value v → Extensions r → Rest ExtPos.Value0 (v ++ r)
   in-token : {n r : List ℕ} → Many token? n → Extensions r → Rest ExtPos.Token (n ++ r)
-  in-quoted : {i r : List ℕ} → Inside i → Extensions r → Rest ExtPos.Quoted (i ++ (34 ∷ r))
-  pair : {b : ℕ} {i r : List ℕ} → escaped? b ≡ true → Inside i → Extensions r → Rest ExtPos.Pair (b ∷ (i ++ (34 ∷ r)))
+  in-quoted : {i r : List ℕ} → Spelled i → Extensions r → Rest ExtPos.Quoted (i ++ (34 ∷ r))
+  pair : {b : ℕ} {i r : List ℕ} → escaped? b ≡ true → Spelled i → Extensions r → Rest ExtPos.Pair (b ∷ (i ++ (34 ∷ r)))
 
 bad : {A : Type 0} {xs : List ℕ} → Rest ExtPos.Bad xs → A
 bad h = elim h [ ]
@@ -61,22 +65,22 @@ token-value0 h (in-token m e) = value0 (G.token-value (G.some h m)) e
 
 quoted-value0 : {xs : List ℕ} → Rest ExtPos.Quoted xs → Rest ExtPos.Value0 (34 ∷ xs)
 quoted-value0 (in-quoted {i = i} {r = r} w e) = subst (Rest ExtPos.Value0) (ap (λ (l : List ℕ). 34 ∷ l) (append-assoc i (34 ∷ []) r))
-    (value0 (G.quoted-value w) e)
+    (value0 (G.quoted-value (inside w)) e)
 
 to-quoted : {b : ℕ} {xs : List ℕ} → text? b ≡ true → Rest ExtPos.Quoted xs → Rest ExtPos.Quoted (b ∷ xs)
-to-quoted h (in-quoted w e) = in-quoted (G.text h w) e
+to-quoted h (in-quoted w e) = in-quoted (Quoted.text h w) e
 
 pair-quoted : {xs : List ℕ} → Rest ExtPos.Pair xs → Rest ExtPos.Quoted (92 ∷ xs)
-pair-quoted (pair h w e) = in-quoted (G.pair h w) e
+pair-quoted (pair h w e) = in-quoted (Quoted.pair h w) e
 
 quoted-pair : {b : ℕ} {xs : List ℕ} → escaped? b ≡ true → Rest ExtPos.Quoted xs → Rest ExtPos.Pair (b ∷ xs)
 quoted-pair h (in-quoted w e) = pair h w e
 
-pub from-between : {xs : List ℕ} → Rest ExtPos.Between xs → Extensions xs
+from-between : {xs : List ℕ} → Rest ExtPos.Between xs → Extensions xs
 from-between (between e) = e
 
 -- ## a byte back
-pub back : (e : ExtPos) (b : ℕ) (xs : List ℕ) → Rest (extStep e b) xs → Rest e (b ∷ xs)
+back : (e : ExtPos) (b : ℕ) (xs : List ℕ) → Rest (extStep e b) xs → Rest e (b ∷ xs)
 back ExtPos.Between b xs = by-cond (λ (e : ExtPos). Rest e xs) (eqb b 59)
     (λ k h. rw (eqb-true b 59 k) (between (from-name0 h))) (λ k h. bad h)
 back ExtPos.Name0 b xs = by-cond (λ (e : ExtPos). Rest e xs) (token? b) to-name0 (λ k h. bad h)
@@ -89,11 +93,11 @@ back ExtPos.Token b xs = by-cond (λ (e : ExtPos). Rest e xs) (token? b) to-toke
     by-cond (λ (e : ExtPos). Rest e xs) (eqb b 59) (λ k h. rw (eqb-true b 59 k) (in-token G.none (from-name0 h))) (λ k h. bad h))
 back ExtPos.Quoted b xs = by-cond (λ (e : ExtPos). Rest e xs) (text? b) to-quoted (λ _.
     by-cond (λ (e : ExtPos). Rest e xs) (eqb b 92) (λ k h. rw (eqb-true b 92 k) (pair-quoted h)) (λ _.
-    by-cond (λ (e : ExtPos). Rest e xs) (eqb b 34) (λ k h. rw (eqb-true b 34 k) (in-quoted G.end (from-between h))) (λ k h. bad h)))
+    by-cond (λ (e : ExtPos). Rest e xs) (eqb b 34) (λ k h. rw (eqb-true b 34 k) (in-quoted Quoted.end (from-between h))) (λ k h. bad h)))
 back ExtPos.Pair b xs = by-cond (λ (e : ExtPos). Rest e xs) (escaped? b) quoted-pair (λ k h. bad h)
 back ExtPos.Bad b xs = λ h. bad h
 
-pub rest-nil : (e : ExtPos) → extEnds e ≡ true → Rest e []
+rest-nil : (e : ExtPos) → extEnds e ≡ true → Rest e []
 rest-nil ExtPos.Between h = between G.none
 rest-nil ExtPos.Name0 h = false-true h
 rest-nil ExtPos.Name h = name G.none (no-value G.none)
@@ -103,7 +107,7 @@ rest-nil ExtPos.Quoted h = false-true h
 rest-nil ExtPos.Pair h = false-true h
 rest-nil ExtPos.Bad h = false-true h
 
-pub rest : (e : ExtPos) (xs : List ℕ) → extEnds (extRun e xs) ≡ true → Rest e xs
+rest : (e : ExtPos) (xs : List ℕ) → extEnds (extRun e xs) ≡ true → Rest e xs
 rest e [] h = rest-nil e h
 rest e (b ∷ xs) h = back e b xs (rest (extStep e b) xs h)
 
@@ -153,17 +157,17 @@ step-text b h = rw h
 step-escaped : (b : ℕ) → escaped? b ≡ true → extStep ExtPos.Pair b ≡ ExtPos.Quoted
 step-escaped b h = rw h
 
-run-inside : {i : List ℕ} → Inside i → extRun ExtPos.Quoted (i ++ (34 ∷ [])) ≡ ExtPos.Between
-run-inside G.end = close-quote
-run-inside (G.text {b = b} {xs = xs} h w) = run-step extStep ExtPos.Quoted b (xs ++ (34 ∷ [])) (step-text b h) ∙ run-inside w
-run-inside (G.pair {b = b} {xs = xs} h w) =
+run-inside : {i : List ℕ} → Spelled i → extRun ExtPos.Quoted (i ++ (34 ∷ [])) ≡ ExtPos.Between
+run-inside Quoted.end = close-quote
+run-inside (Quoted.text {b = b} {xs = xs} h w) = run-step extStep ExtPos.Quoted b (xs ++ (34 ∷ [])) (step-text b h) ∙ run-inside w
+run-inside (Quoted.pair {b = b} {xs = xs} h w) =
     run-step extStep ExtPos.Quoted 92 (b ∷ (xs ++ (34 ∷ []))) open-pair
     ∙ run-step extStep ExtPos.Pair b (xs ++ (34 ∷ [])) (step-escaped b h)
     ∙ run-inside w
 
 run-value : {v : List ℕ} → Value v → extEnds (extRun ExtPos.Value0 v) ≡ true
 run-value (G.token-value (G.some h m)) = rw h (rw (run-token m) refl)
-run-value (G.quoted-value {xs = xs} w) = ap extEnds (run-step extStep ExtPos.Value0 34 (xs ++ (34 ∷ [])) open-quote ∙ run-inside w)
+run-value (G.quoted-value {xs = xs} w) = ap extEnds (run-step extStep ExtPos.Value0 34 (xs ++ (34 ∷ [])) open-quote ∙ run-inside (spelled xs w))
 
 run-extension : {x : List ℕ} → Extension x → (a : ExtPos) → extEnds a ≡ true → extEnds (extRun a x) ≡ true
 run-extension (G.bare {n = n} t) a h = rw (ends-semicolon a h) (rw (run-name0 t) refl)
@@ -171,13 +175,13 @@ run-extension (G.valued {n = n} {v = v} t w) a h =
     rw (run-step extStep a 59 (n ++ (61 ∷ v)) (ends-semicolon a h))
     (rw (run-append extStep ExtPos.Name0 n (61 ∷ v)) (rw (run-name0 t) (rw (run-step extStep ExtPos.Name 61 v name-equals) (run-value w))))
 
-pub ext-sound : {xs : List ℕ} → Extensions xs → (a : ExtPos) → extEnds a ≡ true → extEnds (extRun a xs) ≡ true
+ext-sound : {xs : List ℕ} → Extensions xs → (a : ExtPos) → extEnds a ≡ true → extEnds (extRun a xs) ≡ true
 ext-sound G.none a h = h
 ext-sound (G.more {e = e} {es = es} x xs) a h = rw (run-append extStep a e es) (ext-sound xs (extRun a e) (run-extension x a h))
 
 -- ## Live positions
 
-pub ext-dead : (e : ExtPos) (b : ℕ) → extLive e ≡ false → extLive (extStep e b) ≡ false
+ext-dead : (e : ExtPos) (b : ℕ) → extLive e ≡ false → extLive (extStep e b) ≡ false
 ext-dead ExtPos.Between b h = false-true (sym h)
 ext-dead ExtPos.Name0 b h = false-true (sym h)
 ext-dead ExtPos.Name b h = false-true (sym h)
@@ -187,18 +191,19 @@ ext-dead ExtPos.Quoted b h = false-true (sym h)
 ext-dead ExtPos.Pair b h = false-true (sym h)
 ext-dead ExtPos.Bad b h = refl
 
-pub ext-no-cr : (e : ExtPos) → extLive (extStep e 13) ≡ false
+-- a CR stands in no extension
+pub extensions-no-cr : (e : ExtPos) → extensions .alive (extensions .next e 13) ≡ false
 unfolding token? text? escaped?
-ext-no-cr ExtPos.Between = refl
-ext-no-cr ExtPos.Name0 = refl
-ext-no-cr ExtPos.Name = refl
-ext-no-cr ExtPos.Value0 = refl
-ext-no-cr ExtPos.Token = refl
-ext-no-cr ExtPos.Quoted = refl
-ext-no-cr ExtPos.Pair = refl
-ext-no-cr ExtPos.Bad = refl
+extensions-no-cr ExtPos.Between = refl
+extensions-no-cr ExtPos.Name0 = refl
+extensions-no-cr ExtPos.Name = refl
+extensions-no-cr ExtPos.Value0 = refl
+extensions-no-cr ExtPos.Token = refl
+extensions-no-cr ExtPos.Quoted = refl
+extensions-no-cr ExtPos.Pair = refl
+extensions-no-cr ExtPos.Bad = refl
 
-pub ext-finish : (e : ExtPos) → extLive e ≡ true → (u : List ℕ) × (extEnds (extRun e u) ≡ true)
+ext-finish : (e : ExtPos) → extLive e ≡ true → (u : List ℕ) × (extEnds (extRun e u) ≡ true)
 unfolding token? text? escaped?
 ext-finish ExtPos.Between h = ([], refl)
 ext-finish ExtPos.Name0 h = (97 ∷ [], refl)
@@ -209,7 +214,7 @@ ext-finish ExtPos.Quoted h = (34 ∷ [], refl)
 ext-finish ExtPos.Pair h = (32 ∷ 34 ∷ [], refl)
 ext-finish ExtPos.Bad h = false-true h
 
-pub ext-ends-live : (e : ExtPos) → extEnds e ≡ true → extLive e ≡ true
+ext-ends-live : (e : ExtPos) → extEnds e ≡ true → extLive e ≡ true
 ext-ends-live ExtPos.Between h = refl
 ext-ends-live ExtPos.Name0 h = refl
 ext-ends-live ExtPos.Name h = refl
@@ -218,3 +223,25 @@ ext-ends-live ExtPos.Token h = refl
 ext-ends-live ExtPos.Quoted h = refl
 ext-ends-live ExtPos.Pair h = refl
 ext-ends-live ExtPos.Bad h = false-true h
+
+-- no extension begins with a digit of the size
+semicolon : hex? 59 ≡ false
+unfolding hex?
+semicolon = refl
+
+begins : {ys : List ℕ} → Extensions ys → (b : ℕ) (xs : List ℕ) → ys ≡ b ∷ xs → hex? b ≡ false
+begins G.none b xs e = let z : _≡_ {A = ℕ} 0 1 = cc in absurd (omega arith)
+begins (G.more (G.bare t) x) b xs e = let z : 59 ≡ b = cc in ap hex? (sym z) ∙ semicolon
+begins (G.more (G.valued t w) x) b xs e = let z : 59 ≡ b = cc in ap hex? (sym z) ∙ semicolon
+
+pub extensions-begin : (b : ℕ) (xs : List ℕ) → Extensions (b ∷ xs) → hex? b ≡ false
+extensions-begin b xs x = begins x b xs refl
+
+pub extensions-read : Reads Extensions extensions
+extensions-read = record {
+  sound = λ xs x. ext-sound x ExtPos.Between refl;
+  complete = λ xs h. from-between (rest ExtPos.Between xs h);
+  ends-alive = ext-ends-live;
+  finish = ext-finish;
+  dead = ext-dead;
+}

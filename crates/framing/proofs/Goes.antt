@@ -11,19 +11,19 @@ use borrow.Author.Tests.{eqb-true}
 use Rattle.framing.specs.declared.LinePos.{LinePos}
 use Rattle.framing.specs.declared.LinePos.the-variants.{First}
 use Rattle.framing.specs.declared.TrailPos.{TrailPos}
-use Rattle.framing.specs.declared.TrailPos.the-variants.{Start}
 use Rattle.framing.specs.declared.State.{State}
 use Rattle.framing.specs.declared.State.the-variants.{Line, LineFeed, Data, DataCr, DataLf, Trail, EndLf, Done, Dead}
 use Rattle.framing.specs.Grammar as G
 use Rattle.octets.specs.Bytes.{octet?, hex?}
 use Rattle.framing.specs.Grammar.{Many, Trailer, Chunk, Chunks, Body}
-use Rattle.framing.specs.helpers.Machine.{lineStep, lineEnds, lineLive, trailStep, trailEnds, trailLive}
+use Rattle.framing.specs.helpers.Machine.{lineStep, lineEnds, lineLive, trailer}
 use Rattle.framing.specs.helpers.Machine.{leaveLine, enterChunk, step, emit, live, start}
 use Rattle.framing.specs.helpers.Scan.{run, out}
 use Rattle.framing.proofs.Scanning.{run-append, out-append, run-live}
 use Rattle.framing.proofs.Cases.{false-true, to-cond}
 use Rattle.framing.proofs.Lines.{lineRun, line-sound, line-dead, line-no-cr, line-finish, line-ends-live}
-use Rattle.framing.proofs.Trails.{trailRun, trail-sound, trail-dead, trail-no-cr, trail-finish, trail-live-start, ends-live}
+use Rattle.framing.proofs.Parts.{at}
+use Rattle.framing.proofs.Trails.{trailer-read, trailer-no-cr}
 
 -- over xs the machine goes from s to s′ and gives d
 pub record Goes (s : State) (xs d : List ℕ) (s′ : State) : Type 0 where
@@ -137,7 +137,7 @@ enter-data : (m t : ℕ) → enterChunk (suc m) t ≡ Data m (t + suc m)
 unfolding enterChunk
 enter-data m t = refl
 
-enter-trail : (t : ℕ) → enterChunk 0 t ≡ Trail Start 0 t
+enter-trail : (t : ℕ) → enterChunk 0 t ≡ Trail (trailer .begin) 0 t
 unfolding enterChunk
 enter-trail t = refl
 
@@ -159,13 +159,14 @@ goes-chunks (G.more {c = c} {d = d} {e = e} {x = x} cs h) =
     (then (goes-chunks cs) (goes-chunk (length d) h))
 
 -- ## In the trailer
-step-trail : (p : TrailPos) (b k t : ℕ) → trailLive (trailStep p b) ≡ true → step (Trail p k t) b ≡ Trail (trailStep p b) (suc k) t
+step-trail : (p : TrailPos) (b k t : ℕ) → trailer .alive (trailer .next p b) ≡ true
+    → step (Trail p k t) b ≡ Trail (trailer .next p b) (suc k) t
 unfolding step
-step-trail p b k t h = go (trailEnds p) (eqb b 13) refl refl
+step-trail p b k t h = go (trailer .ends p) (eqb b 13) refl refl
   where
-    go : (x y : Bool) → trailEnds p ≡ x → eqb b 13 ≡ y
-        → cond (x && y) (EndLf t) (Trail (trailStep p b) (suc k) t) ≡ Trail (trailStep p b) (suc k) t
-    go true true e f = false-true (sym (trail-no-cr p e) ∙ rw (eqb-true b 13 f) at h)
+    go : (x y : Bool) → trailer .ends p ≡ x → eqb b 13 ≡ y
+        → cond (x && y) (EndLf t) (Trail (trailer .next p b) (suc k) t) ≡ Trail (trailer .next p b) (suc k) t
+    go true true e f = false-true (sym (trailer-no-cr p e) ∙ rw (eqb-true b 13 f) at h)
     go true false e f = refl
     go false y e f = refl
 
@@ -173,17 +174,18 @@ emit-trail : (p : TrailPos) (b k t : ℕ) → emit (Trail p k t) b ≡ []
 unfolding emit
 emit-trail p b k t = refl
 
-pub goes-trail : (l : List ℕ) (p : TrailPos) (k t : ℕ) → trailLive (trailRun p l) ≡ true
-    → Goes (Trail p k t) l [] (Trail (trailRun p l) (k + length l) t)
+pub goes-trail : (l : List ℕ) (p : TrailPos) (k t : ℕ) → trailer .alive (at trailer p l) ≡ true
+    → Goes (Trail p k t) l [] (Trail (at trailer p l) (k + length l) t)
 goes-trail [] p k t h = record { ends = ap (λ (n : ℕ). Trail p n t) (omega arith); gives = refl }
 goes-trail (b ∷ l) p k t h =
-    byte (Trail p k t) b (step-trail p b k t (run-live trailStep trailLive trail-dead (trailStep p b) l h)) (emit-trail p b k t)
-    (subst (λ (n : ℕ). Goes (Trail (trailStep p b) (suc k) t) l [] (Trail (trailRun (trailStep p b) l) n t)) (omega arith)
-    (goes-trail l (trailStep p b) (suc k) t h))
+    byte (Trail p k t) b
+    (step-trail p b k t (run-live (trailer .next) (trailer .alive) (trailer-read .dead) (trailer .next p b) l h)) (emit-trail p b k t)
+    (subst (λ (n : ℕ). Goes (Trail (trailer .next p b) (suc k) t) l [] (Trail (at trailer (trailer .next p b) l) n t)) (omega arith)
+    (goes-trail l (trailer .next p b) (suc k) t h))
 
-trail-cr : (k t : ℕ) → step (Trail Start k t) 13 ≡ EndLf t
+trail-cr : (p : TrailPos) (k t : ℕ) → trailer .ends p ≡ true → step (Trail p k t) 13 ≡ EndLf t
 unfolding step
-trail-cr k t = refl
+trail-cr p k t e = ap (λ (x : Bool). cond (x && true) (EndLf t) (Trail (trailer .next p 13) (suc k) t)) e
 
 end-lf : (t : ℕ) → step (EndLf t) 10 ≡ Done t
 unfolding step
@@ -196,23 +198,25 @@ emit-end t b = refl
 pub goes-end : (t : ℕ) → Goes (EndLf t) (10 ∷ []) [] (Done t)
 goes-end t = byte (EndLf t) 10 (end-lf t) (emit-end t 10) (stay (Done t))
 
-pub goes-close : (k t : ℕ) → Goes (Trail Start k t) (13 ∷ 10 ∷ []) [] (Done t)
-goes-close k t = byte (Trail Start k t) 13 (trail-cr k t) (emit-trail Start 13 k t) (goes-end t)
+pub goes-close : (p : TrailPos) (k t : ℕ) → trailer .ends p ≡ true → Goes (Trail p k t) (13 ∷ 10 ∷ []) [] (Done t)
+goes-close p k t e = byte (Trail p k t) 13 (trail-cr p k t e) (emit-trail p 13 k t) (goes-end t)
 
-pub goes-last-line : {l : List ℕ} (t : ℕ) → G.Line l 0 → Goes (Line First 0 t) (l ++ (13 ∷ 10 ∷ [])) [] (Trail Start 0 t)
+pub goes-last-line : {l : List ℕ} (t : ℕ) → G.Line l 0 → Goes (Line First 0 t) (l ++ (13 ∷ 10 ∷ [])) [] (Trail (trailer .begin) 0 t)
 goes-last-line {l} t h = subst (Goes (Line First 0 t) (l ++ (13 ∷ 10 ∷ [])) []) (enter-trail t) (goes-whole-line t h)
 
-goes-trailer : {y : List ℕ} (t : ℕ) → Trailer y → Goes (Trail Start 0 t) y [] (Trail Start (0 + length y) t)
+-- the trailer and what closes it
+goes-trailer : {y : List ℕ} (t : ℕ) → Trailer y → Goes (Trail (trailer .begin) 0 t) (y ++ (13 ∷ 10 ∷ [])) [] (Done t)
 goes-trailer {y} t h =
-    subst (λ (p : TrailPos). Goes (Trail Start 0 t) y [] (Trail p (0 + length y) t)) (trail-sound h)
-    (goes-trail y Start 0 t (rw (trail-sound h) trail-live-start))
+    let e : trailer .ends (at trailer (trailer .begin) y) ≡ true = trailer-read .sound y h in
+    then (goes-trail y (trailer .begin) 0 t (trailer-read .ends-alive (at trailer (trailer .begin) y) e))
+    (goes-close (at trailer (trailer .begin) y) (0 + length y) t e)
 
 -- ## A body
 pub goes-body : {xs d : List ℕ} → Body xs d → Goes start xs d (Done (length d))
 goes-body (G.body {c = c} {d = d} {l = l} {t = t} cs h y) =
     subst (λ (z : List ℕ). Goes start (c ++ z) d (Done (length d))) (append-assoc l (13 ∷ 10 ∷ []) (t ++ (13 ∷ 10 ∷ [])))
     (subst (λ (z : List ℕ). Goes start (c ++ ((l ++ (13 ∷ 10 ∷ [])) ++ (t ++ (13 ∷ 10 ∷ [])))) z (Done (length d))) (append-nil d)
-    (then (goes-chunks cs) (then (goes-last-line (length d) h) (then (goes-trailer (length d) y) (goes-close (0 + length t) (length d))))))
+    (then (goes-chunks cs) (then (goes-last-line (length d) h) (goes-trailer (length d) y))))
 
 -- ## Every live state has a completion
 pub record Finish (s : State) : Type 0 where
@@ -224,19 +228,24 @@ pub record Finish (s : State) : Type 0 where
 before : {s s′ : State} {xs d : List ℕ} → Goes s xs d s′ → Finish s′ → Finish s
 before {xs = xs} {d = d} g f = record { rest = xs ++ f .rest; data′ = d ++ f .data′; total = f .total; goes = then g (f .goes) }
 
-finish-trail : (p : TrailPos) (k t : ℕ) → trailLive p ≡ true → Finish (Trail p k t)
+finish-trail : (p : TrailPos) (k t : ℕ) → trailer .alive p ≡ true → Finish (Trail p k t)
 finish-trail p k t h =
-    let f : (u : List ℕ) × (trailRun p u ≡ Start) = trail-finish p h in
-    before
-    (subst (λ (q : TrailPos). Goes (Trail p k t) (f .0) [] (Trail q (k + length (f .0)) t)) (f .1)
-    (goes-trail (f .0) p k t (rw (f .1) trail-live-start)))
-    (record { rest = 13 ∷ 10 ∷ []; data′ = []; total = t; goes = goes-close (k + length (f .0)) t })
+    let f : (u : List ℕ) × (trailer .ends (at trailer p u) ≡ true) = trailer-read .finish p h in
+    before (goes-trail (f .0) p k t (trailer-read .ends-alive (at trailer p (f .0)) (f .1))) (record {
+      rest = 13 ∷ 10 ∷ [];
+      data′ = [];
+      total = t;
+      goes = goes-close (at trailer p (f .0)) (k + length (f .0)) t (f .1);
+    })
+
+finish-begun : (t : ℕ) → Finish (enterChunk 0 t)
+finish-begun t = rw (enter-trail t) (finish-trail (trailer .begin) 0 t refl)
 
 finish-first : (k t : ℕ) → Finish (Line First k t)
 finish-first k t =
     before (goes-line (48 ∷ []) First k t (unfold lineLive lineStep hex? in refl))
     (before (goes-ended (lineRun First (48 ∷ [])) 0 (k + 1) t (unfold lineEnds lineStep hex? in refl))
-    (rw (enter-trail t) (finish-trail Start 0 t trail-live-start)))
+    (finish-begun t))
 
 finish-cr : (t : ℕ) → Finish (DataCr t)
 finish-cr t = before (goes-crlf t) (finish-first 0 t)
@@ -249,7 +258,7 @@ finish-data : (m t : ℕ) → Finish (Data m t)
 finish-data m t = before (goes-data m t (zeros (suc m)) (length-replicate (suc m) 0)) (finish-cr t)
 
 finish-enter : (v t : ℕ) → Finish (enterChunk v t)
-finish-enter zero t = rw (enter-trail t) (finish-trail Start 0 t trail-live-start)
+finish-enter zero t = finish-begun t
 finish-enter (suc m) t = rw (enter-data m t) (finish-data m (t + suc m))
 
 finish-line : (p : LinePos) (k t : ℕ) → lineLive p ≡ true → Finish (Line p k t)
@@ -283,11 +292,11 @@ dead (LineFeed v t) b h = false-true (sym h)
 dead (Data m t) b h = false-true (sym h)
 dead (DataCr t) b h = false-true (sym h)
 dead (DataLf t) b h = false-true (sym h)
-dead (Trail p k t) b h = go (trailEnds p) refl (eqb b 13)
+dead (Trail p k t) b h = go (trailer .ends p) refl (eqb b 13)
   where
-    go : (x : Bool) → trailEnds p ≡ x → (y : Bool) → live (cond (x && y) (EndLf t) (Trail (trailStep p b) (suc k) t)) ≡ false
-    go true e y = false-true (sym h ∙ ends-live p e)
-    go false e y = trail-dead p b h
+    go : (x : Bool) → trailer .ends p ≡ x → (y : Bool) → live (cond (x && y) (EndLf t) (Trail (trailer .next p b) (suc k) t)) ≡ false
+    go true e y = false-true (sym h ∙ trailer-read .ends-alive p e)
+    go false e y = trailer-read .dead p b h
 dead (EndLf t) b h = false-true (sym h)
 dead (Done t) b h = false-true (sym h)
 dead Dead b h = refl

@@ -1,5 +1,5 @@
 -- The machine for a chunk line agrees with the grammar.
-use mathlib.Core.Path.{_≡_, refl, sym, subst}
+use mathlib.Core.Path.{_≡_, refl, sym, _∙_, ap, subst}
 use mathlib.Core.Bool.{Bool, true, false, cond}
 use mathlib.Core.List.{List, [], _∷_, _++_}
 use mathlib.Core.Option.{Option, none, some}
@@ -12,12 +12,12 @@ use Rattle.framing.specs.declared.LinePos.the-variants.{First, Size, Ext
 use Rattle.framing.specs.Grammar as G
 use Rattle.octets.specs.Bytes.{hex?, hex-value}
 use Rattle.framing.specs.Grammar.{Many, valueFrom, Extensions, Line}
-use Rattle.framing.specs.helpers.Machine.{extStep, extEnds, lineStep, lineEnds, lineLive}
+use Rattle.framing.specs.helpers.Machine.{extensions, lineStep, lineEnds, lineLive}
 use Rattle.framing.specs.helpers.Scan.{run}
 use Rattle.framing.proofs.Scanning.{run-append}
 use Rattle.framing.proofs.Cases.{false-true, by-cond}
-use Rattle.framing.proofs.Exts.{extRun, Rest, back, rest-nil, from-between}
-use Rattle.framing.proofs.Exts.{ext-sound, ext-dead, ext-no-cr, ext-finish, ext-ends-live}
+use Rattle.framing.proofs.Parts.{at, never-ends}
+use Rattle.framing.proofs.Exts.{extensions-read, extensions-no-cr, extensions-begin}
 
 abbrev pub lineRun : LinePos → List ℕ → LinePos
 lineRun = run lineStep
@@ -30,13 +30,13 @@ none-some e = let z : _≡_ {A = ℕ} 0 1 = cc in absurd (omega arith)
 data Waits : LinePos → ℕ → List ℕ → Type 0 where
   first : {v : ℕ} {xs : List ℕ} → Line xs v → Waits First v xs
   size : {w : ℕ} {s e : List ℕ} → Many hex? s → Extensions e → Waits (Size w) (valueFrom w s) (s ++ e)
-  ext : {w : ℕ} {p : ExtPos} {xs : List ℕ} → Rest p xs → Waits (Ext w p) w xs
+  ext : {w : ℕ} {p : ExtPos} {xs : List ℕ} → extensions .ends (at extensions p xs) ≡ true → Waits (Ext w p) w xs
 
 from-first : {v : ℕ} {xs : List ℕ} → Waits First v xs → Line xs v
 from-first (first l) = l
 
 bad : {A : Type 0} {v w : ℕ} {xs : List ℕ} → Waits (Ext w ExtPos.Bad) v xs → A
-bad (ext h) = elim h [ ]
+bad (ext {xs = xs} h) = never-ends extensions extensions-read ExtPos.Bad xs refl h
 
 size-first : {b v : ℕ} {xs : List ℕ} → hex? b ≡ true → Waits (Size (0 * 16 + hex-value b)) v xs → Waits First v (b ∷ xs)
 size-first {b} h (size {s = s} m e) = first (G.line (G.size (G.some h m)) e)
@@ -44,11 +44,11 @@ size-first {b} h (size {s = s} m e) = first (G.line (G.size (G.some h m)) e)
 to-size : {w b v : ℕ} {xs : List ℕ} → hex? b ≡ true → Waits (Size (w * 16 + hex-value b)) v xs → Waits (Size w) v (b ∷ xs)
 to-size h (size m e) = size (G.more h m) e
 
-ext-size : {w b v : ℕ} {xs : List ℕ} → Waits (Ext w (extStep ExtPos.Between b)) v xs → Waits (Size w) v (b ∷ xs)
-ext-size {b = b} (ext {xs = xs} h) = size G.none (from-between (back ExtPos.Between b xs h))
+ext-size : {w b v : ℕ} {xs : List ℕ} → Waits (Ext w (extensions .next (extensions .begin) b)) v xs → Waits (Size w) v (b ∷ xs)
+ext-size {b = b} (ext {xs = xs} h) = size G.none (extensions-read .complete (b ∷ xs) h)
 
-to-ext : {w b v : ℕ} {p : ExtPos} {xs : List ℕ} → Waits (Ext w (extStep p b)) v xs → Waits (Ext w p) v (b ∷ xs)
-to-ext {b = b} {p = p} (ext {xs = xs} h) = ext (back p b xs h)
+to-ext : {w b v : ℕ} {p : ExtPos} {xs : List ℕ} → Waits (Ext w (extensions .next p b)) v xs → Waits (Ext w p) v (b ∷ xs)
+to-ext (ext h) = ext h
 
 line-back : (p : LinePos) (b v : ℕ) (xs : List ℕ) → Waits (lineStep p b) v xs → Waits p v (b ∷ xs)
 unfolding lineStep
@@ -56,15 +56,15 @@ line-back First b v xs = by-cond (λ (p : LinePos). Waits p v xs) (hex? b) size-
 line-back (Size w) b v xs = by-cond (λ (p : LinePos). Waits p v xs) (hex? b) to-size (λ k h. ext-size h)
 line-back (Ext w p) b v xs = λ h. to-ext h
 
-ext-nil : (w v : ℕ) (p : ExtPos) (t : Bool) → extEnds p ≡ t → cond t (some w) none ≡ some v → Waits (Ext w p) v []
-ext-nil w v p true h e = let z : w ≡ v = cc in subst (λ (n : ℕ). Waits (Ext w p) n []) z (ext (rest-nil p h))
+ext-nil : (w v : ℕ) (p : ExtPos) (t : Bool) → extensions .ends p ≡ t → cond t (some w) none ≡ some v → Waits (Ext w p) v []
+ext-nil w v p true h e = let z : w ≡ v = cc in subst (λ (n : ℕ). Waits (Ext w p) n []) z (ext h)
 ext-nil w v p false h e = none-some e
 
 line-nil : (p : LinePos) (v : ℕ) → lineEnds p ≡ some v → Waits p v []
 unfolding lineEnds
 line-nil First v e = none-some e
 line-nil (Size w) v e = let z : w ≡ v = cc in subst (λ (n : ℕ). Waits (Size w) n []) z (size G.none G.none)
-line-nil (Ext w p) v e = ext-nil w v p (extEnds p) refl e
+line-nil (Ext w p) v e = ext-nil w v p (extensions .ends p) refl e
 
 waits : (p : LinePos) (v : ℕ) (xs : List ℕ) → lineEnds (lineRun p xs) ≡ some v → Waits p v xs
 waits p v [] e = line-nil p v e
@@ -84,24 +84,22 @@ pub run-digits : {s : List ℕ} {v : ℕ} → G.Size s v → lineRun First s ≡
 unfolding lineStep
 run-digits (G.size (G.some {b = b} h m)) = rw h (run-size (0 * 16 + hex-value b) m)
 
-pub run-ext : (w : ℕ) (p : ExtPos) (xs : List ℕ) → lineRun (Ext w p) xs ≡ Ext w (extRun p xs)
+pub run-ext : (w : ℕ) (p : ExtPos) (xs : List ℕ) → lineRun (Ext w p) xs ≡ Ext w (at extensions p xs)
 unfolding lineStep
 run-ext w p [] = refl
-run-ext w p (b ∷ xs) = run-ext w (extStep p b) xs
+run-ext w p (b ∷ xs) = run-ext w (extensions .next p b) xs
 
--- a list that is empty or begins with a semicolon takes a size as it takes the place between extensions
-ends-size : (w : ℕ) {xs : List ℕ} → Extensions xs → lineEnds (lineRun (Size w) xs) ≡ some w
-unfolding lineStep lineEnds hex?
-ends-size w G.none = refl
-ends-size w (G.more {es = es} (G.bare {n = n} t) xs) =
-    rw (run-ext w (extStep ExtPos.Between 59) (n ++ es))
-    (rw (ext-sound (G.more (G.bare t) xs) ExtPos.Between refl) refl)
-ends-size w (G.more {es = es} (G.valued {n = n} {v = v} t y) xs) =
-    rw (run-ext w (extStep ExtPos.Between 59) ((n ++ (61 ∷ v)) ++ es))
-    (rw (ext-sound (G.more (G.valued t y) xs) ExtPos.Between refl) refl)
+-- extensions take a size as they take the place where they begin
+ends-size : (w : ℕ) (xs : List ℕ) → Extensions xs → lineEnds (lineRun (Size w) xs) ≡ some w
+unfolding lineStep lineEnds
+ends-size w [] x = refl
+ends-size w (b ∷ xs) x =
+    rw (extensions-begin b xs x)
+    (ap lineEnds (run-ext w (extensions .next (extensions .begin) b) xs)
+    ∙ ap (λ (t : Bool). cond t (some w) none) (extensions-read .sound (b ∷ xs) x))
 
 pub line-sound : {xs : List ℕ} {v : ℕ} → Line xs v → lineEnds (lineRun First xs) ≡ some v
-line-sound (G.line {s = s} {e = e} {v = v} z x) = rw (run-append lineStep First s e) (rw (run-digits z) (ends-size v x))
+line-sound (G.line {s = s} {e = e} {v = v} z x) = rw (run-append lineStep First s e) (rw (run-digits z) (ends-size v e x))
 
 -- ## Where only digits lead
 data Digits : LinePos → ℕ → List ℕ → Type 0 where
@@ -144,24 +142,24 @@ pub line-dead : (p : LinePos) (b : ℕ) → lineLive p ≡ false → lineLive (l
 unfolding lineLive lineStep
 line-dead First b h = false-true (sym h)
 line-dead (Size v) b h = false-true (sym h)
-line-dead (Ext v e) b h = ext-dead e b h
+line-dead (Ext v e) b h = extensions-read .dead e b h
 
 pub line-no-cr : (p : LinePos) → lineLive (lineStep p 13) ≡ false
 unfolding lineLive lineStep hex?
 line-no-cr First = refl
-line-no-cr (Size v) = ext-no-cr ExtPos.Between
-line-no-cr (Ext v e) = ext-no-cr e
+line-no-cr (Size v) = extensions-no-cr (extensions .begin)
+line-no-cr (Ext v e) = extensions-no-cr e
 
 pub line-finish : (p : LinePos) → lineLive p ≡ true → (u : List ℕ) × (v : ℕ) × (lineEnds (lineRun p u) ≡ some v)
 unfolding lineLive lineStep lineEnds hex?
 line-finish First h = (48 ∷ [], 0, refl)
 line-finish (Size v) h = ([], v, refl)
 line-finish (Ext v e) h =
-    let f : (u : List ℕ) × (extEnds (extRun e u) ≡ true) = ext-finish e h in
+    let f : (u : List ℕ) × (extensions .ends (at extensions e u) ≡ true) = extensions-read .finish e h in
     (f .0, v, rw (run-ext v e (f .0)) (rw (f .1) refl))
 
 pub line-ends-live : (p : LinePos) (v : ℕ) → lineEnds p ≡ some v → lineLive p ≡ true
 unfolding lineLive lineEnds
 line-ends-live First v h = refl
 line-ends-live (Size w) v h = refl
-line-ends-live (Ext w e) v h = by-cond (λ (o : Option ℕ). o ≡ some v) (extEnds e) (λ k _. ext-ends-live e k) (λ _ z. none-some z) h
+line-ends-live (Ext w e) v h = by-cond (λ (o : Option ℕ). o ≡ some v) (extensions .ends e) (λ k _. extensions-read .ends-alive e k) (λ _ z. none-some z) h

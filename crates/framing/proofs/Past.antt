@@ -11,18 +11,18 @@ use borrow.Author.Tests.{eqb-true}
 use Rattle.framing.specs.declared.LinePos.{LinePos}
 use Rattle.framing.specs.declared.LinePos.the-variants.{First}
 use Rattle.framing.specs.declared.TrailPos.{TrailPos}
-use Rattle.framing.specs.declared.TrailPos.the-variants.{Start, Field, Content, Feed, Wrong}
 use Rattle.framing.specs.declared.State.{State}
 use Rattle.framing.specs.declared.State.the-variants.{Line, LineFeed, Data, DataCr, DataLf, Trail, EndLf, Done, Dead}
 use Rattle.framing.specs.Grammar as G
 use Rattle.octets.specs.Bytes.{octet?}
 use Rattle.framing.specs.Grammar.{Many, Chunk, Chunks, Body}
-use Rattle.framing.specs.helpers.Machine.{lineStep, lineEnds, trailStep, trailEnds, leaveLine, enterChunk, step, emit, start}
+use Rattle.framing.specs.helpers.Machine.{lineStep, lineEnds, trailer, leaveLine, enterChunk, step, emit, start}
 use Rattle.framing.specs.helpers.Scan.{run, out}
 use Rattle.framing.proofs.Scanning.{run-append}
 use Rattle.framing.proofs.Cases.{false-true, to-cond}
 use Rattle.framing.proofs.Lines.{lineRun, line-complete}
-use Rattle.framing.proofs.Trails.{trailRun, trail-complete}
+use Rattle.framing.proofs.Parts.{at}
+use Rattle.framing.proofs.Trails.{trailer-read}
 
 -- chunks, then l, a part of a line
 pub record InLine (p : LinePos) (k t : ℕ) (pre done : List ℕ) : Type 0 where
@@ -74,10 +74,17 @@ pub record InTrail (p : TrailPos) (k : ℕ) (z : List ℕ) (t : ℕ) (pre done :
   pub part : List ℕ
   pub are : Chunks chunks done
   pub is : G.Line line 0
-  pub at : trailRun Start part ≡ p
+  pub at : at trailer (trailer .begin) part ≡ p
   pub count : k ≡ length part
   pub split : pre ≡ chunks ++ (line ++ (13 ∷ 10 ∷ (part ++ z)))
   pub total : t ≡ length done
+
+-- and the trailer may end there
+pub record TrailEnd (z : List ℕ) (t : ℕ) (pre done : List ℕ) : Type 0 where
+  pub position : TrailPos
+  pub length : ℕ
+  pub inside : InTrail position length z t pre done
+  pub ends : trailer .ends position ≡ true
 
 pub record Ended (t : ℕ) (pre done : List ℕ) : Type 0 where
   pub is : Body pre done
@@ -90,16 +97,9 @@ Past (Data m t) pre d = DataLeft m t pre d
 Past (DataCr t) pre d = DataEnd [] t pre d
 Past (DataLf t) pre d = DataEnd (13 ∷ []) t pre d
 Past (Trail p k t) pre d = InTrail p k [] t pre d
-Past (EndLf t) pre d = (k : ℕ) × InTrail Start k (13 ∷ []) t pre d
+Past (EndLf t) pre d = TrailEnd (13 ∷ []) t pre d
 Past (Done t) pre d = Ended t pre d
 Past Dead pre d = Unit {0}
-
-start-only : (q : TrailPos) → trailEnds q ≡ true → q ≡ Start
-start-only Start z = refl
-start-only Field z = false-true z
-start-only Content z = false-true z
-start-only Feed z = false-true z
-start-only Wrong z = false-true z
 
 many-on : {q : ℕ → Bool} {xs : List ℕ} {b : ℕ} → Many q xs → q b ≡ true → Many q (xs ++ (b ∷ []))
 many-on G.none h = G.more h G.none
@@ -209,38 +209,43 @@ module _ (pre d : List ℕ) where
         total = omega (arith, h .total, e .left, length-append (h .done) (h .part), ap length (h .out-is));
       }
 
-  trail-on : (p : TrailPos) (k t b : ℕ) → InTrail p k [] t pre d → InTrail (trailStep p b) (suc k) [] t (pre ++ (b ∷ [])) d
+  trail-on : (p : TrailPos) (k t b : ℕ) → InTrail p k [] t pre d → InTrail (trailer .next p b) (suc k) [] t (pre ++ (b ∷ [])) d
   trail-on p k t b h = record {
     chunks = h .chunks;
     line = h .line;
     part = h .part ++ (b ∷ []);
     are = h .are;
     is = h .is;
-    at = run-append trailStep Start (h .part) (b ∷ []) ∙ ap (λ (z : TrailPos). trailStep z b) (h .at);
+    at = run-append (trailer .next) (trailer .begin) (h .part) (b ∷ []) ∙ ap (λ (z : TrailPos). trailer .next z b) (h .at);
     count = omega (arith, h .count, length-append (h .part) (b ∷ []));
     split = ap (λ (z : List ℕ). z ++ (b ∷ [])) (h .split) ∙ simp (append-assoc, append-nil);
     total = h .total;
   }
 
   -- the closing CR: the trailer is whole
-  close-on : (p : TrailPos) (k t : ℕ) → trailEnds p ≡ true → InTrail p k [] t pre d → InTrail Start k (13 ∷ []) t (pre ++ (13 ∷ [])) d
+  close-on : (p : TrailPos) (k t : ℕ) → trailer .ends p ≡ true → InTrail p k [] t pre d → TrailEnd (13 ∷ []) t (pre ++ (13 ∷ [])) d
   close-on p k t e h = record {
-    chunks = h .chunks;
-    line = h .line;
-    part = h .part;
-    are = h .are;
-    is = h .is;
-    at = h .at ∙ start-only p e;
-    count = h .count;
-    split = ap (λ (z : List ℕ). z ++ (13 ∷ [])) (h .split) ∙ simp (append-assoc, append-nil);
-    total = h .total;
+    position = p;
+    length = k;
+    inside = record {
+      chunks = h .chunks;
+      line = h .line;
+      part = h .part;
+      are = h .are;
+      is = h .is;
+      at = h .at;
+      count = h .count;
+      split = ap (λ (z : List ℕ). z ++ (13 ∷ [])) (h .split) ∙ simp (append-assoc, append-nil);
+      total = h .total;
+    };
+    ends = e;
   }
 
-  end-on : (t : ℕ) → (k : ℕ) × InTrail Start k (13 ∷ []) t pre d → Ended t (pre ++ (10 ∷ [])) d
-  end-on t e = let h : InTrail Start (e .0) (13 ∷ []) t pre d = e .1 in record {
+  end-on : (t : ℕ) → TrailEnd (13 ∷ []) t pre d → Ended t (pre ++ (10 ∷ [])) d
+  end-on t e = let h : InTrail (e .position) (e .length) (13 ∷ []) t pre d = e .inside in record {
     is = subst (λ (z : List ℕ). Body z d)
         (sym (ap (λ (z : List ℕ). z ++ (10 ∷ [])) (h .split) ∙ simp (append-assoc, append-nil)))
-        (G.body (h .are) (h .is) (trail-complete (h .part) (rw (h .at) refl)));
+        (G.body (h .are) (h .is) (trailer-read .complete (h .part) (ap (trailer .ends) (h .at) ∙ e .ends)));
     total = h .total;
   }
 
@@ -264,11 +269,11 @@ on (DataCr t) b pre d h = rw append-nil (to-cond (λ (s : State). Past s (pre ++
     (λ e. rw (eqb-true b 13 e) (cr-on pre d t h)) (λ _. tt))
 on (DataLf t) b pre d h = rw append-nil (to-cond (λ (s : State). Past s (pre ++ (b ∷ [])) d) (eqb b 10)
     (λ e. rw (eqb-true b 10 e) (lf-on pre d t h)) (λ _. tt))
-on (Trail p k t) b pre d h = rw append-nil (go (trailEnds p) (eqb b 13) refl refl)
+on (Trail p k t) b pre d h = rw append-nil (go (trailer .ends p) (eqb b 13) refl refl)
   where
-    go : (x y : Bool) → trailEnds p ≡ x → eqb b 13 ≡ y
-        → Past (cond (x && y) (EndLf t) (Trail (trailStep p b) (suc k) t)) (pre ++ (b ∷ [])) d
-    go true true e f = (k, rw (eqb-true b 13 f) (close-on pre d p k t e h))
+    go : (x y : Bool) → trailer .ends p ≡ x → eqb b 13 ≡ y
+        → Past (cond (x && y) (EndLf t) (Trail (trailer .next p b) (suc k) t)) (pre ++ (b ∷ [])) d
+    go true true e f = rw (eqb-true b 13 f) (close-on pre d p k t e h)
     go true false e f = trail-on pre d p k t b h
     go false y e f = trail-on pre d p k t b h
 on (EndLf t) b pre d h = rw append-nil (to-cond (λ (s : State). Past s (pre ++ (b ∷ [])) d) (eqb b 10)

@@ -1,25 +1,24 @@
 -- A state that breaks no limit is within the limits again; and what a larger room changes.
-use mathlib.Core.Path.{_≡_, refl, sym}
+use mathlib.Core.Path.{_≡_, refl, sym, _∙_}
 use mathlib.Core.Bool.{Bool, true, false, _&&_, cond}
 use mathlib.Core.List.{List, [], _∷_}
-use mathlib.Core.Logic.{_⊎_, inl, inr}
 use mathlib.Core.Option.{Option, none, some}
 use Prim.Native.Nat.{ℕ, zero, suc, _+_, _*_, _≤_}
 use native.Mathlib.Omega.{arith}
 use lib.Dec.{eqb, ltb}
-use lib.ListN.{length, take}
-use borrow.Author.Tests.{eqb-false, ltb-true, ltb-false}
+use borrow.Author.Tests.{eqb-true, eqb-false, ltb-true, ltb-false, lt-ltb}
 use Rattle.octets.specs.Bytes.{hex?, octet?, hex-value}
+use Rattle.grammar.specs.Refusals.{LINE_TOO_LONG, TRAILER_TOO_LONG, BODY_TOO_LARGE}
 use Rattle.framing.specs.declared.LinePos.{LinePos}
 use Rattle.framing.specs.declared.LinePos.the-variants.{First, Size, Ext}
 use Rattle.framing.specs.declared.TrailPos.{TrailPos}
 use Rattle.framing.specs.declared.State.{State}
 use Rattle.framing.specs.declared.State.the-variants.{Line, LineFeed, Data, DataCr, DataLf, Trail, EndLf, Done, Dead}
 use Rattle.framing.specs.Grammar.{LINE_LIMIT, TRAILER_LIMIT}
-use Rattle.framing.specs.helpers.Machine.{lineStep, lineEnds, extEnds, trailStep, trailEnds}
-use Rattle.framing.specs.helpers.Machine.{leaveLine, enterChunk, step, pastRoom, over}
+use Rattle.framing.specs.helpers.Machine.{extensions, lineStep, lineEnds, trailer}
+use Rattle.framing.specs.helpers.Machine.{leaveLine, enterChunk, step, longLine, longTrailer, pastRoom, noRoom, broke}
 use Rattle.framing.specs.helpers.Scan.{run}
-use Rattle.framing.proofs.Cases.{by-cond, to-cond}
+use Rattle.framing.proofs.Cases.{false-true, by-cond, to-cond}
 
 -- the size that a line has read so far
 unfoldable pub sizeOf : LinePos → ℕ
@@ -27,17 +26,41 @@ sizeOf First = 0
 sizeOf (Size v) = v
 sizeOf (Ext v e) = v
 
--- a state whose numbers are within the limits
-unfoldable pub InRoom : ℕ → State → Type 0
-InRoom room (Line p k t) = (k ≤ LINE_LIMIT) × (t + sizeOf p ≤ room)
-InRoom room (LineFeed v t) = t + v ≤ room
-InRoom room (Data m t) = t ≤ room
-InRoom room (DataCr t) = t ≤ room
-InRoom room (DataLf t) = t ≤ room
-InRoom room (Trail p k t) = (k ≤ TRAILER_LIMIT) × (t ≤ room)
-InRoom room (EndLf t) = t ≤ room
-InRoom room (Done t) = t ≤ room
-InRoom room Dead = Unit {0}
+-- the data that a state counts is within the room
+unfoldable pub Fits : ℕ → State → Type 0
+Fits room (Line p k t) = t + sizeOf p ≤ room
+Fits room (LineFeed v t) = t + v ≤ room
+Fits room (Data m t) = t ≤ room
+Fits room (DataCr t) = t ≤ room
+Fits room (DataLf t) = t ≤ room
+Fits room (Trail p k t) = t ≤ room
+Fits room (EndLf t) = t ≤ room
+Fits room (Done t) = t ≤ room
+Fits room Dead = Unit {0}
+
+-- so are the bytes of a line
+unfoldable pub ShortLine : State → Type 0
+ShortLine (Line p k t) = k ≤ LINE_LIMIT
+ShortLine (LineFeed v t) = Unit {0}
+ShortLine (Data m t) = Unit {0}
+ShortLine (DataCr t) = Unit {0}
+ShortLine (DataLf t) = Unit {0}
+ShortLine (Trail p k t) = Unit {0}
+ShortLine (EndLf t) = Unit {0}
+ShortLine (Done t) = Unit {0}
+ShortLine Dead = Unit {0}
+
+-- and of the trailer
+unfoldable pub ShortTrailer : State → Type 0
+ShortTrailer (Line p k t) = Unit {0}
+ShortTrailer (LineFeed v t) = Unit {0}
+ShortTrailer (Data m t) = Unit {0}
+ShortTrailer (DataCr t) = Unit {0}
+ShortTrailer (DataLf t) = Unit {0}
+ShortTrailer (Trail p k t) = k ≤ TRAILER_LIMIT
+ShortTrailer (EndLf t) = Unit {0}
+ShortTrailer (Done t) = Unit {0}
+ShortTrailer Dead = Unit {0}
 
 no-limit : {A : Type 0} {n : ℕ} → none ≡ some n → A
 no-limit e = let z : _≡_ {A = ℕ} 0 1 = cc in absurd (omega arith)
@@ -46,7 +69,7 @@ pub ends-size : (p : LinePos) (v : ℕ) → lineEnds p ≡ some v → sizeOf p �
 unfolding lineEnds sizeOf
 ends-size First v e = no-limit e
 ends-size (Size w) v e = cc
-ends-size (Ext w x) v e = by-cond (λ (o : Option ℕ). o ≡ some v) (extEnds x) (λ _ z. same z) (λ _ z. no-limit z) e
+ends-size (Ext w x) v e = by-cond (λ (o : Option ℕ). o ≡ some v) (extensions .ends x) (λ _ z. same z) (λ _ z. no-limit z) e
   where
     same : some w ≡ some v → w ≡ v
     same z = cc
@@ -63,95 +86,127 @@ size-grows p [] = omega arith
 size-grows p (b ∷ l) = omega (arith, step-grows p b, size-grows (lineStep p b) l)
 
 module _ (room : ℕ) where
-  leave-in : (p : LinePos) (k t : ℕ) (o : Option ℕ) → lineEnds p ≡ o → InRoom room (Line p k t) → InRoom room (leaveLine o t)
-  unfolding InRoom leaveLine
+  leave-in : (p : LinePos) (k t : ℕ) (o : Option ℕ) → lineEnds p ≡ o → Fits room (Line p k t) → Fits room (leaveLine o t)
+  unfolding Fits leaveLine
   leave-in p k t none e h = tt
-  leave-in p k t (some v) e h = let z : sizeOf p ≡ v = ends-size p v e in omega (arith, h .1, z)
+  leave-in p k t (some v) e h = let z : sizeOf p ≡ v = ends-size p v e in omega (arith, h, z)
 
-  not-past : (w t : ℕ) → pastRoom room (Size w) t ≡ none → t + w ≤ room
-  unfolding pastRoom
-  not-past w t e = by-cond (λ (o : Option ℕ). o ≡ none) (ltb room (t + w)) (λ _ z. no-limit (sym z)) (λ z _. ltb-false room (t + w) z) e
-
-  size-in : (p : LinePos) (b t : ℕ) → t + sizeOf p ≤ room → pastRoom room (lineStep p b) t ≡ none → t + sizeOf (lineStep p b) ≤ room
-  unfolding lineStep sizeOf
-  size-in First b t h = to-cond (λ (q : LinePos). pastRoom room q t ≡ none → t + sizeOf q ≤ room) (hex? b)
-      (λ _ z. not-past (0 * 16 + hex-value b) t z) (λ _ _. h)
-  size-in (Size v) b t h = to-cond (λ (q : LinePos). pastRoom room q t ≡ none → t + sizeOf q ≤ room) (hex? b)
-      (λ _ z. not-past (v * 16 + hex-value b) t z) (λ _ _. h)
+  size-in : (p : LinePos) (b t : ℕ) → t + sizeOf p ≤ room → pastRoom room (lineStep p b) t ≡ false → t + sizeOf (lineStep p b) ≤ room
+  unfolding lineStep sizeOf pastRoom
+  size-in First b t h = to-cond (λ (q : LinePos). pastRoom room q t ≡ false → t + sizeOf q ≤ room) (hex? b)
+      (λ _ z. ltb-false room (t + (0 * 16 + hex-value b)) z) (λ _ _. h)
+  size-in (Size v) b t h = to-cond (λ (q : LinePos). pastRoom room q t ≡ false → t + sizeOf q ≤ room) (hex? b)
+      (λ _ z. ltb-false room (t + (v * 16 + hex-value b)) z) (λ _ _. h)
   size-in (Ext v x) b t h = λ _. h
 
-  line-in : (q : LinePos) (k t : ℕ) → k ≤ LINE_LIMIT → over room (Line q (suc k) t) ≡ none
-      → (suc k ≤ LINE_LIMIT) × (pastRoom room q t ≡ none)
-  unfolding over
-  line-in q k t h e = by-cond (λ (o : Option ℕ). o ≡ none) (eqb (suc k) (suc LINE_LIMIT)) (λ _ z. no-limit (sym z))
-      (λ n z. (short (eqb-false (suc k) (suc LINE_LIMIT) n), z)) e
-    where
-      short : (suc k ≡ suc LINE_LIMIT → ⊥) → suc k ≤ LINE_LIMIT
-      short n = omega arith
-
-  trail-in : (q : TrailPos) (k t : ℕ) → k ≤ TRAILER_LIMIT → over room (Trail q (suc k) t) ≡ none → suc k ≤ TRAILER_LIMIT
-  unfolding over
-  trail-in q k t h e = by-cond (λ (o : Option ℕ). o ≡ none) (eqb (suc k) (suc TRAILER_LIMIT)) (λ _ z. no-limit (sym z))
-      (λ n _. short (eqb-false (suc k) (suc TRAILER_LIMIT) n)) e
-    where
-      short : (suc k ≡ suc TRAILER_LIMIT → ⊥) → suc k ≤ TRAILER_LIMIT
-      short n = omega arith
-
-  enter-in : (v t : ℕ) → t + v ≤ room → InRoom room (enterChunk v t)
-  unfolding InRoom enterChunk
+  enter-in : (v t : ℕ) → t + v ≤ room → Fits room (enterChunk v t)
+  unfolding Fits enterChunk
   enter-in zero t h = omega arith
   enter-in (suc m) t h = h
 
   abbrev Kept : State → Type 0
-  Kept s = over room s ≡ none → InRoom room s
+  Kept s = noRoom room s ≡ false → Fits room s
 
-  pub keep : (s : State) (b : ℕ) → InRoom room s → Kept (step s b)
-  unfolding step InRoom sizeOf
-  keep (Line p k t) b h = to-cond Kept (eqb b 13)
-      (λ _ _. leave-in p k t (lineEnds p) refl h)
-      (λ _ e. let w : (suc k ≤ LINE_LIMIT) × (pastRoom room (lineStep p b) t ≡ none) = line-in (lineStep p b) k t (h .0) e in
-      (w .0, size-in p b t (h .1) (w .1)))
-  keep (LineFeed v t) b h = to-cond Kept (eqb b 10) (λ _ _. enter-in v t h) (λ _ _. tt)
-  keep (Data zero t) b h = to-cond Kept (octet? b) (λ _ _. h) (λ _ _. tt)
-  keep (Data (suc m) t) b h = to-cond Kept (octet? b) (λ _ _. h) (λ _ _. tt)
-  keep (DataCr t) b h = to-cond Kept (eqb b 13) (λ _ _. h) (λ _ _. tt)
-  keep (DataLf t) b h = to-cond Kept (eqb b 10) (λ _ _. (omega arith, omega arith)) (λ _ _. tt)
-  keep (Trail p k t) b h = to-cond Kept (trailEnds p && eqb b 13) (λ _ _. h .1) (λ _ e. (trail-in (trailStep p b) k t (h .0) e, h .1))
-  keep (EndLf t) b h = to-cond Kept (eqb b 10) (λ _ _. h) (λ _ _. tt)
-  keep (Done t) b h = λ _. tt
-  keep Dead b h = λ _. tt
+  pub keep-fits : (s : State) (b : ℕ) → Fits room s → Kept (step s b)
+  unfolding step Fits sizeOf
+  keep-fits (Line p k t) b h = to-cond Kept (eqb b 13) (λ _ _. leave-in p k t (lineEnds p) refl h) (λ _ e. size-in p b t h e)
+  keep-fits (LineFeed v t) b h = to-cond Kept (eqb b 10) (λ _ _. enter-in v t h) (λ _ _. tt)
+  keep-fits (Data zero t) b h = to-cond Kept (octet? b) (λ _ _. h) (λ _ _. tt)
+  keep-fits (Data (suc m) t) b h = to-cond Kept (octet? b) (λ _ _. h) (λ _ _. tt)
+  keep-fits (DataCr t) b h = to-cond Kept (eqb b 13) (λ _ _. h) (λ _ _. tt)
+  keep-fits (DataLf t) b h = to-cond Kept (eqb b 10) (λ _ _. omega arith) (λ _ _. tt)
+  keep-fits (Trail p k t) b h = to-cond Kept (trailer .ends p && eqb b 13) (λ _ _. h) (λ _ _. h)
+  keep-fits (EndLf t) b h = to-cond Kept (eqb b 10) (λ _ _. h) (λ _ _. tt)
+  keep-fits (Done t) b h = λ _. tt
+  keep-fits Dead b h = λ _. tt
 
-  -- over bytes that break no limit
-  pub run-in : (xs : List ℕ) (s : State) → InRoom room s → ((i : ℕ) → i ≤ length xs → over room (run step s (take i xs)) ≡ none)
-      → InRoom room (run step s xs)
-  run-in [] s h k = h
-  run-in (b ∷ xs) s h k = run-in xs (step s b) (keep s b h (k 1 (omega arith))) (λ i l. k (suc i) (omega arith))
+-- ## Lengths
+still-short : (k limit : ℕ) → k ≤ limit → eqb (suc k) (suc limit) ≡ false → suc k ≤ limit
+still-short k limit h e = go (eqb-false (suc k) (suc limit) e)
+  where
+    go : (suc k ≡ suc limit → ⊥) → suc k ≤ limit
+    go n = omega arith
+
+abbrev KeptLine : State → Type 0
+KeptLine s = longLine s ≡ false → ShortLine s
+
+leave-short : (o : Option ℕ) (t : ℕ) → ShortLine (leaveLine o t)
+unfolding ShortLine leaveLine
+leave-short none t = tt
+leave-short (some v) t = tt
+
+enter-short : (v t : ℕ) → ShortLine (enterChunk v t)
+unfolding ShortLine enterChunk
+enter-short zero t = tt
+enter-short (suc m) t = tt
+
+pub keep-line : (s : State) (b : ℕ) → ShortLine s → KeptLine (step s b)
+unfolding step ShortLine
+keep-line (Line p k t) b h = to-cond KeptLine (eqb b 13) (λ _ _. leave-short (lineEnds p) t) (λ _ e. still-short k LINE_LIMIT h e)
+keep-line (LineFeed v t) b h = to-cond KeptLine (eqb b 10) (λ _ _. enter-short v t) (λ _ _. tt)
+keep-line (Data zero t) b h = to-cond KeptLine (octet? b) (λ _ _. tt) (λ _ _. tt)
+keep-line (Data (suc m) t) b h = to-cond KeptLine (octet? b) (λ _ _. tt) (λ _ _. tt)
+keep-line (DataCr t) b h = to-cond KeptLine (eqb b 13) (λ _ _. tt) (λ _ _. tt)
+keep-line (DataLf t) b h = to-cond KeptLine (eqb b 10) (λ _ _. omega arith) (λ _ _. tt)
+keep-line (Trail p k t) b h = to-cond KeptLine (trailer .ends p && eqb b 13) (λ _ _. tt) (λ _ _. tt)
+keep-line (EndLf t) b h = to-cond KeptLine (eqb b 10) (λ _ _. tt) (λ _ _. tt)
+keep-line (Done t) b h = λ _. tt
+keep-line Dead b h = λ _. tt
+
+abbrev KeptTrailer : State → Type 0
+KeptTrailer s = longTrailer s ≡ false → ShortTrailer s
+
+leave-trailer : (o : Option ℕ) (t : ℕ) → ShortTrailer (leaveLine o t)
+unfolding ShortTrailer leaveLine
+leave-trailer none t = tt
+leave-trailer (some v) t = tt
+
+enter-trailer : (v t : ℕ) → ShortTrailer (enterChunk v t)
+unfolding ShortTrailer enterChunk
+enter-trailer zero t = omega arith
+enter-trailer (suc m) t = tt
+
+pub keep-trailer : (s : State) (b : ℕ) → ShortTrailer s → KeptTrailer (step s b)
+unfolding step ShortTrailer
+keep-trailer (Line p k t) b h = to-cond KeptTrailer (eqb b 13) (λ _ _. leave-trailer (lineEnds p) t) (λ _ _. tt)
+keep-trailer (LineFeed v t) b h = to-cond KeptTrailer (eqb b 10) (λ _ _. enter-trailer v t) (λ _ _. tt)
+keep-trailer (Data zero t) b h = to-cond KeptTrailer (octet? b) (λ _ _. tt) (λ _ _. tt)
+keep-trailer (Data (suc m) t) b h = to-cond KeptTrailer (octet? b) (λ _ _. tt) (λ _ _. tt)
+keep-trailer (DataCr t) b h = to-cond KeptTrailer (eqb b 13) (λ _ _. tt) (λ _ _. tt)
+keep-trailer (DataLf t) b h = to-cond KeptTrailer (eqb b 10) (λ _ _. tt) (λ _ _. tt)
+keep-trailer (Trail p k t) b h =
+    to-cond KeptTrailer (trailer .ends p && eqb b 13) (λ _ _. tt) (λ _ e. still-short k TRAILER_LIMIT h e)
+keep-trailer (EndLf t) b h = to-cond KeptTrailer (eqb b 10) (λ _ _. tt) (λ _ _. tt)
+keep-trailer (Done t) b h = λ _. tt
+keep-trailer Dead b h = λ _. tt
 
 -- ## A larger room
-pub larger : (room room′ : ℕ) → room ≤ room′ → (s : State) → (over room s ≡ some 7) ⊎ (over room′ s ≡ over room s)
-unfolding over pastRoom
-larger room room′ h (Line p k t) = go (eqb k (suc LINE_LIMIT))
+-- every other limit is the same there
+pub same : (r q n : ℕ) (s : State) → (n ≡ BODY_TOO_LARGE → ⊥) → broke q n s ≡ broke r n s
+same r q n s f = go (eqb n LINE_TOO_LONG) (eqb n TRAILER_TOO_LONG) (eqb n BODY_TOO_LARGE) refl
   where
-    size : (v : ℕ) (a b : Bool) → ltb room (t + v) ≡ a → ltb room′ (t + v) ≡ b
-        → (cond {A = Option ℕ} a (some 7) none ≡ some 7) ⊎ (cond {A = Option ℕ} b (some 7) none ≡ cond a (some 7) none)
-    size v true b e f = inl refl
-    size v false true e f = absurd (omega (arith, ltb-false room (t + v) e, ltb-true room′ (t + v) f, h))
-    size v false false e f = inr refl
+    go : (x y z : Bool) → eqb n BODY_TOO_LARGE ≡ z
+        → cond x (longLine s) (cond y (longTrailer s) (cond z (noRoom q s) false))
+        ≡ cond x (longLine s) (cond y (longTrailer s) (cond z (noRoom r s) false))
+    go true y z e = refl
+    go false true z e = refl
+    go false false true e = absurd (f (eqb-true n BODY_TOO_LARGE e))
+    go false false false e = refl
 
-    pos : (q : LinePos) → (pastRoom room q t ≡ some 7) ⊎ (pastRoom room′ q t ≡ pastRoom room q t)
-    pos First = inr refl
-    pos (Size v) = size v (ltb room (t + v)) (ltb room′ (t + v)) refl refl
-    pos (Ext v e) = inr refl
+-- and what passes it passes each smaller one
+size-lifts : (r q v t : ℕ) → r ≤ q → ltb q (t + v) ≡ true → ltb r (t + v) ≡ true
+size-lifts r q v t h e = lt-ltb r (t + v) (omega (arith, h, ltb-true q (t + v) e))
 
-    go : (b : Bool) → (cond b (some 5) (pastRoom room p t) ≡ some 7)
-        ⊎ (cond b (some 5) (pastRoom room′ p t) ≡ cond b (some 5) (pastRoom room p t))
-    go true = inr refl
-    go false = pos p
-larger room room′ h (LineFeed v t) = inr refl
-larger room room′ h (Data m t) = inr refl
-larger room room′ h (DataCr t) = inr refl
-larger room room′ h (DataLf t) = inr refl
-larger room room′ h (Trail p k t) = inr refl
-larger room room′ h (EndLf t) = inr refl
-larger room room′ h (Done t) = inr refl
-larger room room′ h Dead = inr refl
+pub lifts : (r q : ℕ) (s : State) → r ≤ q → noRoom q s ≡ true → noRoom r s ≡ true
+unfolding pastRoom
+lifts r q (Line First k t) h e = e
+lifts r q (Line (Size v) k t) h e = size-lifts r q v t h e
+lifts r q (Line (Ext v x) k t) h e = e
+lifts r q (LineFeed v t) h e = e
+lifts r q (Data m t) h e = e
+lifts r q (DataCr t) h e = e
+lifts r q (DataLf t) h e = e
+lifts r q (Trail p k t) h e = e
+lifts r q (EndLf t) h e = e
+lifts r q (Done t) h e = e
+lifts r q Dead h e = e

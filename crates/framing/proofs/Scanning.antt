@@ -4,7 +4,7 @@ use mathlib.Core.Bool.{Bool, true, false}
 use mathlib.Core.List.{List, [], _∷_, _++_, append-assoc}
 use mathlib.Core.Logic.{_⊎_, ⊎-elim}
 use mathlib.Core.Option.{Option, none, some}
-use Prim.Native.Nat.{ℕ, zero, suc, _+_, _<_}
+use Prim.Native.Nat.{ℕ, zero, suc, _+_, _<_, _≤_}
 use native.Mathlib.Decide.{ℕ-discrete, decLt}
 use native.Mathlib.Omega.{arith}
 use lib.ListN.{length, take}
@@ -29,14 +29,21 @@ module _ {S : Type 0} (step : S → ℕ → S) where
       go below true e = refl
       go below false e = sym (dead s b e) ∙ below
 
+  -- what each step keeps that fails a test holds to the end of bytes that all fail it
+  pub run-keeps : (P : S → Type 0) (test : S → Bool) → ((s : S) (b : ℕ) → P s → test (step s b) ≡ false → P (step s b))
+      → (xs : List ℕ) (s : S) → P s → ((i : ℕ) → i ≤ length xs → test (run step s (take i xs)) ≡ false) → P (run step s xs)
+  run-keeps P test keep [] s h k = h
+  run-keeps P test keep (b ∷ xs) s h k =
+      run-keeps P test keep xs (step s b) (keep s b h (k 1 (omega arith))) (λ i l. k (suc i) (omega arith))
+
   pub out-append : (emit : S → ℕ → List ℕ) (s : S) (xs ys : List ℕ)
       → out step emit s (xs ++ ys) ≡ out step emit s xs ++ out step emit (run step s xs) ys
   out-append emit s [] ys = refl
   out-append emit s (b ∷ xs) ys = rw (out-append emit (step s b) xs ys, append-assoc)
 
-module _ {S W : Type 0} (step : S → ℕ → S) (judge : S → Option W) where
+module _ {S J : Type 0} (step : S → ℕ → S) (judge : S → Option J) where
   -- the byte at j gets the first verdict
-  pub record Stops (s : S) (xs : List ℕ) (j : ℕ) (v : W) : Type 0 where
+  pub record Stops (s : S) (xs : List ℕ) (j : ℕ) (v : J) : Type 0 where
     pub inside : j < length xs
     pub quiet : Quiet step judge s xs j
     pub verdict : judge (run step s (take (suc j) xs)) ≡ some v
@@ -63,11 +70,11 @@ module _ {S W : Type 0} (step : S → ℕ → S) (judge : S → Option W) where
       go (no e) = k i (omega arith)
 
   -- ## What a scan's finding says of the input
-  Tells : S → ℕ → List ℕ → Found W → Type 0
+  Tells : S → ℕ → List ℕ → Found J → Type 0
   Tells s i xs going = Quiet step judge s xs (length xs)
   Tells s i xs (stop j v) = (k : ℕ) × (j ≡ i + k) × Stops s xs k v
 
-  later : (s : S) (i b : ℕ) (xs : List ℕ) (r : Found W) → judge s ≡ none → Tells (step s b) (suc i) xs r → Tells s i (b ∷ xs) r
+  later : (s : S) (i b : ℕ) (xs : List ℕ) (r : Found J) → judge s ≡ none → Tells (step s b) (suc i) xs r → Tells s i (b ∷ xs) r
   unfolding Tells
   later s i b xs going h t = quiet-cons s b xs (length xs) h t
   later s i b xs (stop j v) h t = (
@@ -80,7 +87,7 @@ module _ {S W : Type 0} (step : S → ℕ → S) (judge : S → Option W) where
     },
   )
 
-  here : (s : S) (i b : ℕ) (xs : List ℕ) (r : Found W) (o : Option W) → judge s ≡ none → judge (step s b) ≡ o
+  here : (s : S) (i b : ℕ) (xs : List ℕ) (r : Found J) (o : Option J) → judge s ≡ none → judge (step s b) ≡ o
       → (judge (step s b) ≡ none → Tells (step s b) (suc i) xs r) → Tells s i (b ∷ xs) (note i o r)
   unfolding Tells
   here s i b xs r none h k t = later s i b xs r h (t k)
@@ -97,7 +104,7 @@ module _ {S W : Type 0} (step : S → ℕ → S) (judge : S → Option W) where
     unfolding Tells
     going-quiet e = subst (Tells s 0 xs) e (tells s 0 xs h)
 
-    pub stop-stops : (j : ℕ) (v : W) → scan step judge s 0 xs ≡ stop j v → Stops s xs j v
+    pub stop-stops : (j : ℕ) (v : J) → scan step judge s 0 xs ≡ stop j v → Stops s xs j v
     unfolding Tells
     stop-stops j v e =
         let t : (k : ℕ) × (j ≡ 0 + k) × Stops s xs k v = subst (Tells s 0 xs) e (tells s 0 xs h) in
@@ -105,20 +112,20 @@ module _ {S W : Type 0} (step : S → ℕ → S) (judge : S → Option W) where
         subst (λ (k : ℕ). Stops s xs k v) z (t .2)
 
     -- ## and it decides what a scan finds
-    clash : {A : Type 0} {v : W} → none ≡ some v → A
+    clash : {A : Type 0} {v : J} → none ≡ some v → A
     clash e = let z : _≡_ {A = ℕ} 0 1 = cc in absurd (omega arith)
 
     pub quiet-going : Quiet step judge s xs (length xs) → scan step judge s 0 xs ≡ going
     quiet-going q = go (scan step judge s 0 xs) refl
       where
-        go : (r : Found W) → scan step judge s 0 xs ≡ r → r ≡ going
+        go : (r : Found J) → scan step judge s 0 xs ≡ r → r ≡ going
         go going e = refl
         go (stop j v) e = let t : Stops s xs j v = stop-stops j v e in clash (sym (q (suc j) (t .inside)) ∙ t .verdict)
 
-    pub stops-stop : (j : ℕ) (v : W) → Stops s xs j v → scan step judge s 0 xs ≡ stop j v
+    pub stops-stop : (j : ℕ) (v : J) → Stops s xs j v → scan step judge s 0 xs ≡ stop j v
     stops-stop j v t = go (scan step judge s 0 xs) refl
       where
-        at : (i : ℕ) (w : W) → Stops s xs i w → Dec (i ≡ j) → Dec (i < j) → stop i w ≡ stop j v
+        at : (i : ℕ) (w : J) → Stops s xs i w → Dec (i ≡ j) → Dec (i < j) → stop i w ≡ stop j v
         at i w u (yes e) d =
             let x : judge (run step s (take (suc j) xs)) ≡ some w
             = subst (λ (m : ℕ). judge (run step s (take (suc m) xs)) ≡ some w) e (u .verdict) in
@@ -127,17 +134,17 @@ module _ {S W : Type 0} (step : S → ℕ → S) (judge : S → Option W) where
         at i w u (no e) (yes l) = clash (sym (t .quiet (suc i) l) ∙ u .verdict)
         at i w u (no e) (no l) = clash (sym (u .quiet (suc j) (omega arith)) ∙ t .verdict)
 
-        go : (r : Found W) → scan step judge s 0 xs ≡ r → r ≡ stop j v
+        go : (r : Found J) → scan step judge s 0 xs ≡ r → r ≡ stop j v
         go going e = clash (sym (going-quiet e (suc j) (t .inside)) ∙ t .verdict)
         go (stop i w) e = at i w (stop-stops i w e) (ℕ-discrete i j) (decLt i j)
 
   -- ## A verdict stands in every longer input
-  stands-here : (i : ℕ) (o : Option W) (r r′ : Found W) (j : ℕ) (v : W) → (r ≡ stop j v → r′ ≡ stop j v)
+  stands-here : (i : ℕ) (o : Option J) (r r′ : Found J) (j : ℕ) (v : J) → (r ≡ stop j v → r′ ≡ stop j v)
       → note i o r ≡ stop j v → note i o r′ ≡ stop j v
   stands-here i none r r′ j v h e = h e
   stands-here i (some w) r r′ j v h e = e
 
-  pub stands : (s : S) (i : ℕ) (xs ys : List ℕ) (j : ℕ) (v : W) → scan step judge s i xs ≡ stop j v
+  pub stands : (s : S) (i : ℕ) (xs ys : List ℕ) (j : ℕ) (v : J) → scan step judge s i xs ≡ stop j v
       → scan step judge s i (xs ++ ys) ≡ stop j v
   stands s i [] ys j v e = let z : _≡_ {A = ℕ} 0 1 = cc in absurd (omega arith)
   stands s i (b ∷ xs) ys j v e =
@@ -145,9 +152,9 @@ module _ {S W : Type 0} (step : S → ℕ → S) (judge : S → Option W) where
       (λ h. stands (step s b) (suc i) xs ys j v h) e
 
 -- ## Two judges that differ only where the first gives one verdict
-module _ {S W : Type 0} (step : S → ℕ → S) (judge judge′ : S → Option W) (w : W)
+module _ {S J : Type 0} (step : S → ℕ → S) (judge judge′ : S → Option J) (w : J)
     (agree : (s : S) → (judge s ≡ some w) ⊎ (judge′ s ≡ judge s)) where
-  same-note : (i : ℕ) (o : Option W) (r r′ : Found W) → ((j : ℕ) → note i o r ≡ stop j w → ⊥)
+  same-note : (i : ℕ) (o : Option J) (r r′ : Found J) → ((j : ℕ) → note i o r ≡ stop j w → ⊥)
       → (((j : ℕ) → r ≡ stop j w → ⊥) → r′ ≡ r) → note i o r′ ≡ note i o r
   same-note i none r r′ f h = h f
   same-note i (some v) r r′ f h = refl
@@ -157,9 +164,9 @@ module _ {S W : Type 0} (step : S → ℕ → S) (judge judge′ : S → Option 
   same-scan s i [] f = refl
   same-scan s i (b ∷ xs) f =
       ⊎-elim
-      (λ (e : judge (step s b) ≡ some w). absurd (f i (ap (λ (o : Option W). note i o (scan step judge (step s b) (suc i) xs)) e)))
+      (λ (e : judge (step s b) ≡ some w). absurd (f i (ap (λ (o : Option J). note i o (scan step judge (step s b) (suc i) xs)) e)))
       (λ (e : judge′ (step s b) ≡ judge (step s b)).
-      ap (λ (o : Option W). note i o (scan step judge′ (step s b) (suc i) xs)) e
+      ap (λ (o : Option J). note i o (scan step judge′ (step s b) (suc i) xs)) e
       ∙ same-note i (judge (step s b)) (scan step judge (step s b) (suc i) xs) (scan step judge′ (step s b) (suc i) xs) f
       (λ g. same-scan (step s b) (suc i) xs g))
       (agree (step s b))

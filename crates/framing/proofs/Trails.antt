@@ -10,12 +10,13 @@ use Rattle.framing.specs.declared.TrailPos.the-variants.{Start, Field, C
 use Rattle.framing.specs.Grammar as G
 use Rattle.octets.specs.Bytes.{token?, content?}
 use Rattle.framing.specs.Grammar.{Many, Some, Trailer}
-use Rattle.framing.specs.helpers.Machine.{trailStep, trailEnds, trailLive}
+use Rattle.framing.specs.helpers.Machine.{trailStep, trailEnds, trailLive, trailer}
 use Rattle.framing.specs.helpers.Scan.{run}
 use Rattle.framing.proofs.Scanning.{run-append, run-step}
 use Rattle.framing.proofs.Cases.{false-true, by-cond}
+use Rattle.framing.proofs.Parts.{Reads}
 
-abbrev pub trailRun : TrailPos → List ℕ → TrailPos
+abbrev trailRun : TrailPos → List ℕ → TrailPos
 trailRun = run trailStep
 
 -- ## From the machine to the grammar
@@ -70,7 +71,7 @@ rest : (p : TrailPos) (xs : List ℕ) → trailEnds (trailRun p xs) ≡ true →
 rest p [] h = rest-nil p h
 rest p (b ∷ xs) h = back p b xs (rest (trailStep p b) xs h)
 
-pub trail-complete : (xs : List ℕ) → trailEnds (trailRun Start xs) ≡ true → Trailer xs
+trail-complete : (xs : List ℕ) → trailEnds (trailRun Start xs) ≡ true → Trailer xs
 trail-complete xs h = from-start (rest Start xs h)
 
 -- ## From the grammar to the machine
@@ -94,7 +95,7 @@ crlf : trailStep (trailStep Content 13) 10 ≡ Start
 unfolding content?
 crlf = refl
 
-pub trail-sound : {xs : List ℕ} → Trailer xs → trailRun Start xs ≡ Start
+trail-sound : {xs : List ℕ} → Trailer xs → trailRun Start xs ≡ Start
 trail-sound G.none = refl
 trail-sound (G.more {n = n} {f = f} {t = t} a c r) =
     run-append trailStep Start n (58 ∷ (f ++ (13 ∷ 10 ∷ t)))
@@ -107,7 +108,7 @@ trail-sound (G.more {n = n} {f = f} {t = t} a c r) =
 
 -- ## Live positions
 
-pub trail-dead : (p : TrailPos) (b : ℕ) → trailLive p ≡ false → trailLive (trailStep p b) ≡ false
+trail-dead : (p : TrailPos) (b : ℕ) → trailLive p ≡ false → trailLive (trailStep p b) ≡ false
 trail-dead Start b h = false-true (sym h)
 trail-dead Field b h = false-true (sym h)
 trail-dead Content b h = false-true (sym h)
@@ -115,15 +116,15 @@ trail-dead Feed b h = false-true (sym h)
 trail-dead Wrong b h = refl
 
 -- the CR that closes the trailer is no byte of a line
-pub trail-no-cr : (p : TrailPos) → trailEnds p ≡ true → trailLive (trailStep p 13) ≡ false
+pub trailer-no-cr : (p : TrailPos) → trailer .ends p ≡ true → trailer .alive (trailer .next p 13) ≡ false
 unfolding token?
-trail-no-cr Start h = refl
-trail-no-cr Field h = false-true h
-trail-no-cr Content h = false-true h
-trail-no-cr Feed h = false-true h
-trail-no-cr Wrong h = false-true h
+trailer-no-cr Start h = refl
+trailer-no-cr Field h = false-true h
+trailer-no-cr Content h = false-true h
+trailer-no-cr Feed h = false-true h
+trailer-no-cr Wrong h = false-true h
 
-pub trail-finish : (p : TrailPos) → trailLive p ≡ true → (u : List ℕ) × (trailRun p u ≡ Start)
+trail-finish : (p : TrailPos) → trailLive p ≡ true → (u : List ℕ) × (trailEnds (trailRun p u) ≡ true)
 unfolding token? content?
 trail-finish Start h = ([], refl)
 trail-finish Field h = (58 ∷ 13 ∷ 10 ∷ [], refl)
@@ -131,15 +132,18 @@ trail-finish Content h = (13 ∷ 10 ∷ [], refl)
 trail-finish Feed h = (10 ∷ [], refl)
 trail-finish Wrong h = false-true h
 
-pub trail-ends-start : trailEnds Start ≡ true
-trail-ends-start = refl
-
-pub trail-live-start : trailLive Start ≡ true
-trail-live-start = refl
-
-pub ends-live : (p : TrailPos) → trailEnds p ≡ true → trailLive p ≡ true
+ends-live : (p : TrailPos) → trailEnds p ≡ true → trailLive p ≡ true
 ends-live Start h = refl
 ends-live Field h = refl
 ends-live Content h = refl
 ends-live Feed h = refl
 ends-live Wrong h = false-true h
+
+pub trailer-read : Reads Trailer trailer
+trailer-read = record {
+  sound = λ xs t. ap trailEnds (trail-sound t);
+  complete = trail-complete;
+  ends-alive = ends-live;
+  finish = trail-finish;
+  dead = trail-dead;
+}

@@ -1,13 +1,38 @@
 -- What is asked of a reader of bodies, in the words of a grammar and its limits: of no machine. `demands` in proofs/Demands.antt shows it
 -- of `decode` and `decoded` in specs/Reading.antt, with the grammar and the limits of specs/Grammar.antt.
 use mathlib.Core.Path.{_≡_}
-use mathlib.Core.List.{List, [], _++_}
+use mathlib.Core.Bool.{cond}
+use mathlib.Core.List.{List, [], _∷_, _++_}
 use mathlib.Core.Logic.{_↔_}
 use Prim.Native.Nat.{ℕ, suc, _<_, _≤_}
+use lib.Dec.{eqb}
 use lib.ListN.{length, take}
 use Rattle.grammar.specs.Refusals.{MALFORMED, BODY_TOO_LARGE}
 use Rattle.framing.specs.Answer as Answer
 use Rattle.framing.specs.Answer.{Answer}
+
+-- ## What readers differ in
+
+-- a format of bodies, W being what is told of a whole one
+pub record Format (W : Type 0) : Type 1 where
+  -- these bytes are a body with that joined data, limits aside
+  pub Body : List ℕ → List ℕ → Type 0
+  -- this is to be told of a body of these bytes, with that data
+  pub Tells : W → List ℕ → List ℕ → Type 0
+  -- the limits, by number, in their order at one byte
+  pub limits : List ℕ
+  -- in that room, the last of these bytes breaks the limit of that number
+  pub Broken : ℕ → ℕ → List ℕ → Type 0
+
+-- the rank of a limit is its place in that order; what is no limit ranks behind all
+abbrev pub rank : List ℕ → ℕ → ℕ
+rank [] n = 0
+rank (l ∷ ls) n = cond (eqb n l) 0 (suc (rank ls n))
+
+abbrev pub Among : List ℕ → ℕ → Type 0
+Among limits n = rank limits n < length limits
+
+-- ## Answers
 
 -- some continuation, limits aside, makes it a body
 abbrev pub Live : (List ℕ → List ℕ → Type 0) → List ℕ → Type 0
@@ -17,51 +42,59 @@ Live Body p = (u d : List ℕ) × Body (p ++ u) d
 abbrev pub Unended : (List ℕ → List ℕ → Type 0) → List ℕ → ℕ → Type 0
 Unended Body s n = (i : ℕ) (d : List ℕ) → i ≤ n → Body (take i s) d → ⊥
 
--- no limit is broken at a byte of s below n
-abbrev pub Unbroken : (ℕ → List ℕ → Type 0) → List ℕ → ℕ → Type 0
-Unbroken Broken s n = (m i : ℕ) → i < n → Broken m (take (suc i) s) → ⊥
+module _ {W : Type 0} (f : Format W) (room : ℕ) where
+  -- no limit is broken at a byte of s below n
+  abbrev pub Unbroken : List ℕ → ℕ → Type 0
+  Unbroken s n = (m i : ℕ) → Among (f .limits) m → i < n → f .Broken room m (take (suc i) s) → ⊥
 
-module _ (Body : List ℕ → List ℕ → Type 0) (Broken : ℕ → List ℕ → Type 0) where
-  -- the first n bytes are a body with the joined data d, which is k bytes, and break no limit
-  pub record BeginsWhole (s : List ℕ) (n k : ℕ) (d : List ℕ) : Type 0 where
-    pub inside : n ≤ length s
-    pub body : Body (take n s) d
-    pub len : k ≡ length d
-    pub unbroken : Unbroken Broken s n
+  -- a beginning of s is a body with the joined data d, w is to be told of it, and it breaks no limit
+  pub record BeginsWhole (s : List ℕ) (w : W) (d : List ℕ) : Type 0 where
+    pub bytes : ℕ
+    pub inside : bytes ≤ length s
+    pub body : f .Body (take bytes s) d
+    pub tells : f .Tells w (take bytes s) d
+    pub unbroken : Unbroken s bytes
 
   -- a body may begin with all of s
   pub record Unfinished (s : List ℕ) : Type 0 where
-    pub unbroken : Unbroken Broken s (length s)
-    pub unended : Unended Body s (length s)
-    pub live : Live Body s
+    pub unbroken : Unbroken s (length s)
+    pub unended : Unended (f .Body) s (length s)
+    pub live : Live (f .Body) s
 
   -- before the byte at p no limit was broken and no body ended
   pub record Reaches (s : List ℕ) (p : ℕ) : Type 0 where
     pub inside : p < length s
-    pub unbroken : Unbroken Broken s p
-    pub unended : Unended Body s p
+    pub unbroken : Unbroken s p
+    pub unended : Unended (f .Body) s p
 
   -- the byte at p is the first that leaves no continuation
   pub record Malformed (s : List ℕ) (p : ℕ) : Type 0 where
     pub reaches : Reaches s p
-    pub live : Live Body (take p s)
-    pub dead : Live Body (take (suc p) s) → ⊥
+    pub live : Live (f .Body) (take p s)
+    pub dead : Live (f .Body) (take (suc p) s) → ⊥
 
-  -- the byte at p breaks the limit of that number, and none of a lower number
+  -- the byte at p breaks the limit of that number, and none of a lower rank
   pub record Over (s : List ℕ) (n p : ℕ) : Type 0 where
     pub reaches : Reaches s p
-    pub broken : Broken n (take (suc p) s)
-    pub lowest : (m : ℕ) → m < n → Broken m (take (suc p) s) → ⊥
+    pub limit : Among (f .limits) n
+    pub broken : f .Broken room n (take (suc p) s)
+    pub lowest : (m : ℕ) → rank (f .limits) m < rank (f .limits) n → f .Broken room m (take (suc p) s) → ⊥
 
--- a reader in each room, with the data that it writes, which does what is asked on every input
-pub record Decodes (Body : List ℕ → List ℕ → Type 0) (Broken : ℕ → ℕ → List ℕ → Type 0)
-    (decode : ℕ → List ℕ → Answer) (decoded : ℕ → List ℕ → List ℕ) : Type 0 where
-  pub whole : (r : ℕ) (s : List ℕ) (n k : ℕ) → (decode r s ≡ Answer.whole n k) ↔ ((d : List ℕ) × BeginsWhole Body (Broken r) s n k d)
-  pub more : (r : ℕ) (s : List ℕ) → (decode r s ≡ Answer.more) ↔ Unfinished Body (Broken r) s
-  pub malformed : (r : ℕ) (s : List ℕ) (p : ℕ) → (decode r s ≡ Answer.refused MALFORMED p) ↔ Malformed Body (Broken r) s p
-  pub limit : (r : ℕ) (s : List ℕ) (n p : ℕ) → (n ≡ MALFORMED → ⊥) → (decode r s ≡ Answer.refused n p) ↔ Over Body (Broken r) s n p
-  pub writes : (r : ℕ) (s : List ℕ) (n k : ℕ) (d : List ℕ) → BeginsWhole Body (Broken r) s n k d → decoded r s ≡ d
-  pub keeps : (r : ℕ) (s : List ℕ) → ((n k : ℕ) → decode r s ≡ Answer.whole n k → ⊥) → decoded r s ≡ []
+-- document 01: "No refusal writes into a lent buffer", nor does "more"
+abbrev pub nothing : List ℕ → List ℕ
+nothing xs = []
+
+-- a reader in each room, with the data that it writes, which does what is asked on every input; `early` is what it writes of the bytes
+-- that it accepted where these are not a whole body
+pub record Decodes {W : Type 0} (f : Format W) (early : List ℕ → List ℕ) (decode : ℕ → List ℕ → Answer W)
+    (decoded : ℕ → List ℕ → List ℕ) : Type 0 where
+  pub whole : (r : ℕ) (s : List ℕ) (w : W) → (decode r s ≡ Answer.whole w) ↔ ((d : List ℕ) × BeginsWhole f r s w d)
+  pub more : (r : ℕ) (s : List ℕ) → (decode r s ≡ Answer.more) ↔ Unfinished f r s
+  pub malformed : (r : ℕ) (s : List ℕ) (p : ℕ) → (decode r s ≡ Answer.refused MALFORMED p) ↔ Malformed f r s p
+  pub limit : (r : ℕ) (s : List ℕ) (n p : ℕ) → (n ≡ MALFORMED → ⊥) → (decode r s ≡ Answer.refused n p) ↔ Over f r s n p
+  pub writes : (r : ℕ) (s : List ℕ) (w : W) (d : List ℕ) → BeginsWhole f r s w d → decoded r s ≡ d
+  pub keeps-more : (r : ℕ) (s : List ℕ) → decode r s ≡ Answer.more → decoded r s ≡ early s
+  pub keeps-refused : (r : ℕ) (s : List ℕ) (n p : ℕ) → decode r s ≡ Answer.refused n p → decoded r s ≡ early (take p s)
   pub stands : (r : ℕ) (s t : List ℕ) → (decode r s ≡ Answer.more → ⊥)
       → (decode r (s ++ t) ≡ decode r s) × (decoded r (s ++ t) ≡ decoded r s)
   pub roomier : (r q : ℕ) (s : List ℕ) → r ≤ q → ((p : ℕ) → decode r s ≡ Answer.refused BODY_TOO_LARGE p → ⊥)

@@ -8,7 +8,11 @@ use Prim.Native.Char.{code}
 use lib.ListN.{length}
 use Rattle.grammar.specs.Text.{bytes}
 use Rattle.grammar.specs.Refusals.{LINE_TOO_LONG, TRAILER_TOO_LONG, BODY_TOO_LARGE}
-use Rattle.octets.specs.Bytes.{hex?, hex-value, token?, text?, escaped?, content?, octet?}
+use Rattle.grammar.specs.Beginnings.{Matches}
+use Rattle.octets.specs.Bytes.{hex?, hex-value, token?, content?, octet?}
+use Rattle.octets.specs.Quoted.{quoted-text}
+use Rattle.framing.specs.declared.Whole.{Whole}
+use Rattle.framing.specs.Demand.{Format}
 
 -- ## Parts
 
@@ -37,11 +41,9 @@ valueFrom v (b ∷ xs) = valueFrom (v * 16 + hex-value b) xs
 pub data Size : List ℕ → ℕ → Type 0 where
   size : {xs : List ℕ} → Some hex? xs → Size xs (valueFrom 0 xs)
 
--- what stands between the quotes of a quoted string
-pub data Inside : List ℕ → Type 0 where
-  end : Inside []
-  text : {b : ℕ} {xs : List ℕ} → text? b ≡ true → Inside xs → Inside (b ∷ xs)
-  pair : {b : ℕ} {xs : List ℕ} → escaped? b ≡ true → Inside xs → Inside (code "\\" ∷ b ∷ xs)
+-- what stands between the quotes of a quoted string, as in header values
+abbrev pub Inside : List ℕ → Type 0
+Inside xs = Matches {L = Unit {0}} quoted-text xs
 
 -- "a token or quoted string"
 pub data Value : List ℕ → Type 0 where
@@ -81,6 +83,11 @@ pub data Chunks : List ℕ → List ℕ → Type 0 where
 pub data Body : List ℕ → List ℕ → Type 0 where
   body : {c d l t : List ℕ} → Chunks c d → Line l 0 → Trailer t → Body (c ++ (l ++ (crlf ++ (t ++ crlf)))) d
 
+-- "bytes taken is the length of the beginning that is the body, body length that of its joined chunk data"
+pub record Tells (w : Whole) (f d : List ℕ) : Type 0 where
+  pub taken : w .taken ≡ length f
+  pub joined : w .length ≡ length d
+
 -- ## Where a byte stands
 -- "The bytes up to and with a byte decide which part of a body it stands in." In each, p is these bytes.
 
@@ -113,3 +120,11 @@ pub data Broken (room : ℕ) : ℕ → List ℕ → Type 0 where
   longTrailer : {p t : List ℕ} → InTrailer p t → length t ≡ suc TRAILER_LIMIT → Broken room TRAILER_TOO_LONG p
   -- row 7: "the digit with which finished chunks plus the value read so far pass" the room
   noRoom : {p : List ℕ} {t v w : ℕ} → AtDigit p t v w → t + v ≤ room → room < t + w → Broken room BODY_TOO_LARGE p
+
+-- "at one byte: 1, 5, 6, 7"
+abbrev pub limits : List ℕ
+limits = LINE_TOO_LONG ∷ TRAILER_TOO_LONG ∷ BODY_TOO_LARGE ∷ []
+
+-- chunked bodies under a set of limits
+abbrev pub chunked : List ℕ → Format Whole
+chunked ls = record { Body = Body; Tells = Tells; limits = ls; Broken = Broken }

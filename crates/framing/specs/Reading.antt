@@ -5,22 +5,28 @@ use mathlib.Core.List.{List, _++_}
 use mathlib.Core.Option.{Option}
 use Prim.Native.Nat.{ℕ}
 use lib.ListN.{length, drop}
+use Rattle.framing.specs.declared.Whole.{Whole}
 use Rattle.framing.specs.declared.State.{State}
 use Rattle.framing.specs.Answer.{Answer}
-use Rattle.framing.specs.helpers.Scan.{Verdict, judgeBy, scan, out, answer, written}
-use Rattle.framing.specs.helpers.Machine.{step, emit, live, done, over, start}
+use Rattle.framing.specs.Demand.{nothing}
+use Rattle.framing.specs.helpers.Scan.{Verdict, Found, judgeBy, scan, out, answer, written}
+use Rattle.framing.specs.helpers.Machine.{End, step, emit, live, done, over, tell, start}
 
 -- the verdict on the byte that led to a state
-unfoldable pub judge : ℕ → State → Option Verdict
+unfoldable pub judge : ℕ → State → Option (Verdict End)
 judge room s = judgeBy (live s) (done s) (over room s)
 
--- the answer on these bytes
-unfoldable pub decode : ℕ → List ℕ → Answer
-decode room xs = answer (scan step (judge room) start 0 xs)
+-- the first verdict on these bytes
+unfoldable pub found : ℕ → List ℕ → Found (Verdict End)
+found room xs = scan step (judge room) start 0 xs
+
+-- the answer
+unfoldable pub decode : ℕ → List ℕ → Answer Whole
+decode room xs = answer tell (found room xs)
 
 -- the data that it writes
 unfoldable pub decoded : ℕ → List ℕ → List ℕ
-decoded room xs = written (out step emit start) (decode room xs) xs
+decoded room xs = written nothing (out step emit start) (found room xs) xs
 
 -- the lent bytes after the answer: the data at the front, then what stood there
 unfoldable pub decode-output : List ℕ → List ℕ → List ℕ

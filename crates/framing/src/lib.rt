@@ -17,11 +17,11 @@ pub enum ExtPos {
     Bad,
 }
 
-// Where a chunk line stands: before its first digit, after digits, behind them. The numbers are the value of the digits.
+// Where a chunk line stands: before its first digit, after digits, behind them. `value` is that of the digits so far.
 pub enum LinePos {
     First,
-    Size(usize),
-    Ext(usize, ExtPos),
+    Size { value: usize },
+    Ext { value: usize, position: ExtPos },
 }
 
 // Where trailer lines stand.
@@ -33,16 +33,44 @@ pub enum TrailPos {
     Wrong,
 }
 
-// Where a body stands. The last number is the data of the chunks so far, in data with the whole of the chunk; before it stand the
-// bytes of the line or the trailer so far, the size that the line gave, and the bytes left in the chunk after the next.
+// Where a body stands. `length` counts the bytes so far of the line or the trailer, `size` is what the line gave, `left` the bytes of the
+// chunk behind the next one; `before` is the data of the chunks before the line, `total` that of all chunks, the one being read included.
 pub enum State {
-    Line(LinePos, usize, usize),
-    LineFeed(usize, usize),
-    Data(usize, usize),
-    DataCr(usize),
-    DataLf(usize),
-    Trail(TrailPos, usize, usize),
-    EndLf(usize),
-    Done(usize),
+    Line {
+        position: LinePos,
+        length: usize,
+        before: usize,
+    },
+    LineFeed {
+        size: usize,
+        before: usize,
+    },
+    Data {
+        left: usize,
+        total: usize,
+    },
+    DataCr {
+        total: usize,
+    },
+    DataLf {
+        total: usize,
+    },
+    Trail {
+        position: TrailPos,
+        length: usize,
+        total: usize,
+    },
+    EndLf {
+        total: usize,
+    },
+    Done {
+        total: usize,
+    },
     Dead,
+}
+
+// What is told of a body that is whole: the bytes that it takes, and the length of its data.
+pub struct Whole {
+    pub taken: usize,
+    pub length: usize,
 }

@@ -14,7 +14,7 @@ use borrow.Author.Tests.{leb-true, le-leb, lt-leb, lt-ltb, le-ltb}
 use Rattle.octets.specs.Bytes.{within, hex?, hex-value}
 use Rattle.numerals.specs.Numeral.{every}
 use Rattle.numerals.proofs.Digits.{split, at-true, at-false}
-use Rattle.text.proofs.Placing.{Front, front-on, front-all}
+use Rattle.copying.proofs.Runs.{Front, front-on, front-even}
 use Rattle.lines.specs.Grammar.{DIGIT_LIMIT}
 use Rattle.lines.specs.helpers.Pairs.{pairs}
 use Rattle.lines.specs.declared.Hex.{Hex}
@@ -221,11 +221,11 @@ module _ {line old out : List ℕ} {k : ℕ} (h : Filling line old out k) where
     twice = h .twice;
     count = h .count;
     front = subst (λ (c : ℕ). Front old (pairs line) (set out k c) (k + 1)) e
-        (front-on old (pairs line) out k (sym (h .count)) (h .front) (omega (arith, h .even, h .count)));
+        (front-on (omega (arith, h .count)) (h .front) (omega (arith, h .even, h .count)));
   }
 
   pub filling-all : length out ≤ k → out ≡ pairs line
-  filling-all ge = front-all old (pairs line) out k (sym (h .count)) (h .front) (omega (arith, h .even, h .count))
+  filling-all ge = front-even (sym (h .count)) (h .front) (omega (arith, h .even, h .count))
 
 -- ## What each answer has to show
 pub bad-is : (xs : List ℕ) (old : List ℕ) → spelled xs (length old) ≡ none

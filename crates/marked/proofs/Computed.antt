@@ -10,7 +10,7 @@ use Rattle.date.specs.Grammar.{full-year, fault-of}
 use Rattle.url.specs.Bytes.{host?, unreserved?, path?, query?}
 use Rattle.framing.specs.helpers.Machine.{lineStep, lineLive, lineEnds, leaveLine, enterChunk, step, live, done, pastRoom, over}
 use Rattle.framing.specs.helpers.Scan.{answer}
-use Rattle.framing.specs.Reading.{judge, decode}
+use Rattle.framing.specs.Reading.{judge, found, decode}
 use Rattle.marked.specs.Cases.{Case, All, table}
 
 pub versions : All (take 3 table)
@@ -30,7 +30,7 @@ unfolding lower digit? letter? hex? host? unreserved? path? query?
 urls = (refl, tt)
 
 pub bodies : All (drop 10 table)
-unfolding digit? hex? token? lineStep lineLive lineEnds leaveLine enterChunk step live done pastRoom over answer judge decode
+unfolding digit? hex? token? lineStep lineLive lineEnds leaveLine enterChunk step live done pastRoom over answer judge found decode
 bodies = (refl, (refl, tt))
 
 pub both : (xs ys : List Case) → All xs → All ys → All (xs ++ ys)

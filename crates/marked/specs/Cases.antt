@@ -14,7 +14,7 @@ use Rattle.version.specs.Grammar as VersionGrammar
 use Rattle.version.specs.Reading.{precedence}
 use Rattle.date.specs.Grammar as DateGrammar
 use Rattle.qvalue.specs.Grammar as QvalueGrammar
-use Rattle.url.specs.Meaning.{pages, same-page}
+use Rattle.url_equal.specs.Meaning.{pages, same-page}
 use Rattle.framing.specs.Answer.{whole, refused}
 use Rattle.framing.specs.Reading.{decode}
 use Rattle.grammar.specs.Text.{bytes}
@@ -40,7 +40,7 @@ Holds (date-is t y m d h n s z) =
 Holds (qvalue-is t q) = header QvalueGrammar.rules (bytes t) ≡ value q
 Holds (qvalue-refused t n p) = header QvalueGrammar.rules (bytes t) ≡ Header.refused n p
 Holds (urls-equal t u) = compare same-page (header pages (bytes t)) (header pages (bytes u)) ≡ outcome true
-Holds (body-whole r t n k) = decode r (bytes t) ≡ whole n k
+Holds (body-whole r t n k) = decode r (bytes t) ≡ whole (record { taken = n; length = k })
 Holds (body-refused r t n p) = decode r (bytes t) ≡ refused n p
 
 abbrev pub All : List Case → Type 0

@@ -1,95 +1,39 @@
--- The theorems of what media types mean, of their effective charset and of equality: what a customer reads.
+-- The theorems of what media types mean and of equality: what a customer reads.
 use Prim.Native.Nat.{ℕ}
 use Prim.Native.Char.{code}
 use mathlib.Core.Path.{_≡_, refl, ap, _∙_}
 use mathlib.Core.Logic.{_↔_}
 use mathlib.Core.Bool.{Bool, true, false}
 use mathlib.Core.List.{List, _∷_}
-use mathlib.Core.Option.{none, some}
 use lib.Dec.{T}
-use Rattle.grammar.specs.Grammar.{lower}
 use Rattle.grammar.specs.Reading.{Verdict, value, refused, Answers}
-use Rattle.grammar.specs.Comparing.{outcome, refused-at, compare}
-use Rattle.grammar.specs.Text.{bytes}
+use Rattle.grammar.specs.Comparing.{outcome, refused-at}
 use Rattle.grammar.specs.helpers.Judge.{header}
 use Rattle.grammar.proofs.Demands.{answered-exactly}
 use Rattle.grammar.proofs.Comparing.{compare-read, compare-swap, compare-chain}
-use Rattle.octets.specs.Bytes.{blank?, token?, text?, escaped?}
+use Rattle.octets.specs.Bytes.{text?}
 use Rattle.octets.specs.Case.{alike}
-use Rattle.media.specs.Grammar.{Media, rules, part-at}
+use Rattle.media.specs.Grammar.{Media, rules}
 use Rattle.media.proofs.Parts.{one-way}
-use Rattle.media_equal.specs.Meaning.{unescaped, unquoted, charset-name, Setting, Meaning, meanings}
-use Rattle.media_equal.specs.Meaning.{same-setting, has-setting, same-set, same-meaning, Agree, charset-is, NoCharset}
-use Rattle.media_equal.specs.Charset.{Effective, stated, default-charset, charsets, effective-charset}
-use Rattle.media_equal.specs.Charset.{meant-charset, same-charset}
+use Rattle.media_equal.specs.Meaning.{unescaped, charset-name, Setting, Meaning, meanings}
+use Rattle.media_equal.specs.Meaning.{same-setting, has-setting, same-set, same-meaning, Agree}
 use Rattle.media_equal.specs.Places.{Says}
 use Rattle.media_equal.specs.Reading.{equality}
 use Rattle.media_equal.proofs.Unquoted.{no-pair}
 use Rattle.media_equal.proofs.Places.{says, says-nothing}
-use Rattle.media_equal.proofs.Effect.{default-effect, stated-effect, value-effect, text-effect, other-effect}
-use Rattle.media_equal.proofs.Effect.{bytes-effect, meant-effect}
 use Rattle.media_equal.proofs.Agreeing.{set-is, setting-is, meaning-self, meaning-either, meaning-chain, equality-is}
 
--- As `reading` of media: for what a media type means, and for its effective charset (the promise of `effective_charset` is
--- `header charsets s`).
+-- As `reading` of media: for what a media type means.
 pub meaning-read : (s : List ℕ) (v : Verdict Meaning) → (header meanings s ≡ v) ↔ Answers meanings s v
 meaning-read = answered-exactly meanings tt tt one-way
 
-pub charset-read : (s : List ℕ) (v : Verdict Effective) → (header charsets s ≡ v) ↔ Answers charsets s v
-charset-read = answered-exactly charsets tt tt one-way
-
--- "The answer gives start and length of each part": the parts lie within the text, and what the media type means and its effective
--- charset are found at their places. A refusal of one is the refusal of all.
+-- "The answer gives start and length of each part": the parts lie within the text, and what the media type means is found at
+-- their places. A refusal of one is the refusal of the other.
 pub places : (s : List ℕ) (m : Media) → header rules s ≡ value m → Says s m
 places = says
 
-pub refusals : (s : List ℕ) (n p : ℕ) → header rules s ≡ refused n p
-    → (header meanings s ≡ refused n p) × (header charsets s ≡ refused n p)
+pub refusals : (s : List ℕ) (n p : ℕ) → header rules s ≡ refused n p → header meanings s ≡ refused n p
 refusals = says-nothing
-
--- ## The effective charset
-
--- "Type `text` without `charset` has the effective charset `ISO-8859-1`"
-pub text-charset : (s : List ℕ) (m : Meaning) → header meanings s ≡ value m → alike (m .type) (bytes "text") ≡ true → NoCharset m
-    → effective-charset s ≡ value (some (bytes "ISO-8859-1"))
-text-charset = text-effect
-
--- "other types without it have none"
-pub other-charset : (s : List ℕ) (m : Meaning) → header meanings s ≡ value m → alike (m .type) (bytes "text") ≡ false → NoCharset m
-    → effective-charset s ≡ value none
-other-charset = other-effect
-
--- In every case it is that of what the media type means; with `charset` it is a value of that parameter.
-pub charset-meant : (s : List ℕ) (m : Meaning) → header meanings s ≡ value m → effective-charset s ≡ value (meant-charset m)
-charset-meant = meant-effect
-
-pub named-charset : (s : List ℕ) (m : Meaning) → header meanings s ≡ value m
-    → (v : List ℕ) → has-setting (charset-is v) (m .settings) ≡ true
-    → (w : List ℕ) × (effective-charset s ≡ value (some w)) × (has-setting (charset-is w) (m .settings) ≡ true)
-named-charset = bytes-effect
-
--- So `text/html` has the charset that `text/html;charset=ISO-8859-1` states, in either letter case, quoted or not.
-pub html-charset :
-    (compare same-charset (effective-charset (bytes "text/html")) (effective-charset (bytes "text/html;charset=ISO-8859-1")) ≡ outcome true)
-    × (compare same-charset (effective-charset (bytes "text/html")) (effective-charset (bytes "text/html;charset=\"iso-8859-1\""))
-    ≡ outcome true)
-unfolding lower blank? token? text? escaped?
-html-charset = (refl, refl)
-
--- The same by the cases of the answer: without `charset`, `default-charset`; with it, where its value stands.
-pub without-charset : (s : List ℕ) (m : Meaning) → header meanings s ≡ value m → NoCharset m
-    → header charsets s ≡ value (default-charset (m .type))
-without-charset = default-effect
-
-pub with-charset : (s : List ℕ) (m : Meaning) → header meanings s ≡ value m
-    → (v : List ℕ) → has-setting (charset-is v) (m .settings) ≡ true
-    → (a : ℕ) × (n : ℕ) × (q : Bool) × (header charsets s ≡ value (stated a n q))
-with-charset = stated-effect
-
-pub stated-charset : (s : List ℕ) (m : Meaning) → header meanings s ≡ value m
-    → (a n : ℕ) (q : Bool) → header charsets s ≡ value (stated a n q)
-    → has-setting (charset-is (unquoted q (part-at s a n))) (m .settings) ≡ true
-stated-charset = value-effect
 
 -- ## Equality (the promise of `equal` is `equality a b`)
 

@@ -1,4 +1,4 @@
--- Cases of equality and of the effective charset, computed.
+-- Cases of equality, computed.
 use Prim.Native.String.{String}
 use mathlib.Core.Path.{_≡_, refl}
 use mathlib.Core.Bool.{Bool, true, false}
@@ -6,17 +6,11 @@ use Rattle.grammar.specs.Grammar.{lower}
 use Rattle.grammar.specs.Comparing.{Comparison, outcome, refused-at}
 use Rattle.grammar.specs.Refusals.{MALFORMED, REPEATED_ATTRIBUTE}
 use Rattle.grammar.specs.Text.{bytes}
-use Rattle.grammar.specs.Reading.{Verdict, value, refused}
-use Rattle.grammar.specs.helpers.Judge.{header}
 use Rattle.octets.specs.Bytes.{blank?, token?, text?, escaped?}
-use Rattle.media_equal.specs.Charset.{Effective, stated, latin-1, no-charset, charsets}
 use Rattle.media_equal.specs.Reading.{equality}
 
 abbrev compared : String → String → Comparison Bool
 compared a b = equality (bytes a) (bytes b)
-
-abbrev charset : String → Verdict Effective
-charset s = header charsets (bytes s)
 
 -- "names ignore case", "the value of `charset` ignoring case"; a type with a parameter is not the type without it
 names-and-charset :
@@ -52,14 +46,3 @@ refusals :
     × (compared "a/b" "a/b;x=1;X=2" ≡ refused-at 2 REPEATED_ATTRIBUTE 9)
 unfolding lower blank? token? text? escaped?
 refusals = (refl, refl, refl)
-
--- "Type `text` without `charset` has the effective charset `ISO-8859-1`; other types without it have none."
-effective :
-    (charset "text/html;charset=x" ≡ value (stated 18 1 false))
-    × (charset "a/b;q=1;CHARSET=\"x y\"" ≡ value (stated 17 3 true))
-    × (charset "text/html" ≡ value latin-1)
-    × (charset "TEXT/html;q=charset" ≡ value latin-1)
-    × (charset "a/b" ≡ value no-charset)
-    × (charset "text/" ≡ refused MALFORMED 5)
-unfolding lower blank? token? text? escaped?
-effective = (refl, refl, refl, refl, refl, refl)

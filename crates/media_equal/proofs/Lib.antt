@@ -3,6 +3,5 @@ pub mod Tables
 pub mod Compared
 pub mod Places
 pub mod Agreeing
-pub mod Effect
 pub mod Demands
 pub mod EqualExamples

@@ -22,8 +22,7 @@ use Rattle.media.specs.Places.{Placed, NamesWithin}
 use Rattle.media.specs.Reading.{outcome-verdict, verdict}
 use Rattle.media.proofs.Parts.{one-way}
 use Rattle.media_equal.specs.Meaning.{settings, meaning, meanings}
-use Rattle.media_equal.specs.Charset.{Effective, default-charset, stated-or, effective, charsets}
-use Rattle.media_equal.specs.Places.{settings-at, stated-at, meaning-at, effective-at, Says}
+use Rattle.media_equal.specs.Places.{settings-at, meaning-at, Says}
 use Rattle.media_equal.specs.helpers.Places.{PlacedMedia}
 
 module _ (s : List ℕ) where
@@ -31,18 +30,16 @@ module _ (s : List ℕ) where
   record Entries (ps : List (Part Name)) : Type 0 where
     each : Placed s (entries ps)
     set : settings-at s (entries ps) ≡ settings ps
-    effect : (other : Effective) → stated-at s other (entries ps) ≡ stated-or other ps
 
   entries-there : (ps : List (Part Name)) → Slices 0 s ps → Entries ps
-  entries-there [] w = record { each = tt; set = refl; effect = λ o. refl }
-  entries-there (a ∷ []) w = record { each = tt; set = refl; effect = λ o. refl }
+  entries-there [] w = record { each = tt; set = refl }
+  entries-there (a ∷ []) w = record { each = tt; set = refl }
   entries-there (a ∷ v ∷ ps) w =
       let r = entries-there ps (w .1 .1) in
       let n = slice-is s a (w .0) in
       let t = slice-is s v (w .1 .0) in record {
         each = (record { name-within = slice-within s a (w .0); value-within = slice-within s v (w .1 .0) }, r .each);
         set = rw (n, t, r .set);
-        effect = λ o. rw (n, r .effect o);
       }
 
   -- all parts
@@ -51,14 +48,13 @@ module _ (s : List ℕ) where
     full : length (media ps .table) ≡ media ps .names .count
     each : Placed s (media ps .table)
     means : meaning-at s (media ps .names) (media ps .table) ≡ meaning ps
-    effect : effective-at s (media ps .names) (media ps .table) ≡ effective ps
 
   nowhere : NamesWithin s (none-read .names)
   nowhere = record { type-within = omega arith; subtype-within = omega arith }
 
   there : (ps : List (Part Name)) → Slices 0 s ps → There ps
-  there [] w = record { names = nowhere; full = refl; each = tt; means = refl; effect = refl }
-  there (t ∷ []) w = record { names = nowhere; full = refl; each = tt; means = refl; effect = refl }
+  there [] w = record { names = nowhere; full = refl; each = tt; means = refl }
+  there (t ∷ []) w = record { names = nowhere; full = refl; each = tt; means = refl }
   there (t ∷ u ∷ ps) w =
       let r = entries-there ps (w .1 .1) in
       let n = slice-is s t (w .0) in
@@ -67,31 +63,27 @@ module _ (s : List ℕ) where
         full = refl;
         each = r .each;
         means = rw (n, k, r .set);
-        effect = ap (λ (x : List ℕ). stated-at s (default-charset x) (entries ps)) n ∙ r .effect (default-charset (t .text));
       }
 
   -- A media type that is read stands where reading says.
   pub says : (m : Media) → header rules s ≡ value m → Says s m
   says m e =
       let v = answered-alike rules meaning tt tt one-way s (value m) e in
-      let w = answered-alike rules effective tt tt one-way s (value m) e in
-      let x = there (v .0) (slices media-type 0 s (v .0) tt (v .2)) in
-      let y = there (w .0) (slices media-type 0 s (w .0) tt (w .2)) in record {
+      let x = there (v .0) (slices media-type 0 s (v .0) tt (v .2)) in record {
         names = subst (λ (n : Media). NamesWithin s (n .names)) (v .1) (x .names);
         full = subst (λ (n : Media). length (n .table) ≡ n .names .count) (v .1) (x .full);
         each = subst (λ (n : Media). Placed s (n .table)) (v .1) (x .each);
         means = v .3 ∙ ap value (sym (x .means) ∙ ap (λ (n : Media). meaning-at s (n .names) (n .table)) (v .1));
-        effect = w .3 ∙ ap value (sym (y .effect) ∙ ap (λ (n : Media). effective-at s (n .names) (n .table)) (w .1));
       }
 
-  -- A media type that is refused is refused for what it means and for its effective charset.
-  pub says-nothing : (n p : ℕ) → header rules s ≡ refused n p → (header meanings s ≡ refused n p) × (header charsets s ≡ refused n p)
-  says-nothing n p e = (answered-alike rules meaning tt tt one-way s (refused n p) e, answered-alike rules effective tt tt one-way s (refused n p) e)
+  -- A media type that is refused is refused for what it means.
+  pub says-nothing : (n p : ℕ) → header rules s ≡ refused n p → header meanings s ≡ refused n p
+  says-nothing n p e = answered-alike rules meaning tt tt one-way s (refused n p) e
 
   -- ## The answer of `read`
 
   module _ (r : Reading) (e : verdict r ≡ header rules s) where
-    outcome-says : (o : Outcome) → r .outcome ≡ o → header rules s ≡ outcome-verdict o (r .parameters)
+    pub outcome-says : (o : Outcome) → r .outcome ≡ o → header rules s ≡ outcome-verdict o (r .parameters)
     outcome-says o f = sym e ∙ ap (λ (x : Outcome). outcome-verdict x (r .parameters)) f
 
     module _ (x : MediaType) (f : r .outcome ≡ Read x) where
@@ -107,9 +99,5 @@ module _ (s : List ℕ) where
       pub read-means : header meanings s ≡ value (meaning-at s x found)
       read-means = told .means
 
-      pub read-effect : header charsets s ≡ value (effective-at s x found)
-      read-effect = told .effect
-
-    pub refused-alike : (x : Refusal) → r .outcome ≡ Refused x
-        → (header meanings s ≡ refused (x .number) (x .place)) × (header charsets s ≡ refused (x .number) (x .place))
+    pub refused-alike : (x : Refusal) → r .outcome ≡ Refused x → header meanings s ≡ refused (x .number) (x .place)
     refused-alike x f = says-nothing (x .number) (x .place) (outcome-says (Refused x) f)

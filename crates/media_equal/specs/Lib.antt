@@ -1,5 +1,4 @@
 pub mod Meaning
-pub mod Charset
 pub mod Places
 pub mod Reading
 pub mod helpers

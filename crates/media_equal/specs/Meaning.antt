@@ -86,11 +86,3 @@ pub record Agree (m n : Meaning) : Type 0 where
   pub types : alike (m .type) (n .type) ≡ true
   pub subtypes : alike (m .subtype) (n .subtype) ≡ true
   pub sets : (p : Setting) → has-setting p (m .settings) ≡ has-setting p (n .settings)
-
--- the parameter `charset` with that value
-abbrev pub charset-is : List ℕ → Setting
-charset-is v = record { name = charset-name; value = v }
-
--- no value of `charset` is one of the settings
-abbrev pub NoCharset : Meaning → Type 0
-NoCharset m = (v : List ℕ) → has-setting (charset-is v) (m .settings) ≡ false

@@ -1,4 +1,4 @@
-// Media types compared by what they mean, and the effective charset: RFC 2616 3.7.
+// Media types compared by what they mean: RFC 2616 3.7.
 ghost use mathlib.Core.Path.{_≡_};
 ghost use Prim.Native.Nat.{_≤_, _<_, _+_};
 ghost use lib.ListN.{length, take};
@@ -9,28 +9,14 @@ ghost use Rattle.media.specs.Grammar.{part-at};
 ghost use Rattle.media.specs.Places.{PlacedParameter, NamesWithin};
 ghost use Rattle.media.specs.helpers.Places.{PlacedTable};
 ghost use Rattle.media_equal.specs.Meaning.{unquoted, same-text, same-setting, has-setting, has-settings, meanings, same-meaning};
-ghost use Rattle.media_equal.specs.Charset.{charsets};
-ghost use Rattle.media_equal.specs.Places.{setting-at, settings-at, meaning-at, effective-at};
-ghost use Rattle.media_equal.specs.Reading.{equality, charset-verdict};
+ghost use Rattle.media_equal.specs.Places.{setting-at, settings-at, meaning-at};
+ghost use Rattle.media_equal.specs.Reading.{equality};
 ghost use Rattle.media_equal.specs.helpers.Places.{same-names, same-byte, UnquotedAt, PlacedMedia};
 use media::MediaType;
 use media::Outcome;
 use media::Parameter;
 use media::Table;
 use octets::Compared;
-use octets::Refusal;
-
-// The effective charset: where the parameter's value stands; ISO-8859-1 for `text` without it; none for other types.
-pub enum Charset {
-    Stated {
-        start: usize,
-        length: usize,
-        quoted: bool,
-    },
-    Latin1,
-    NotStated,
-    Refused(Refusal),
-}
 
 // Reads the first, then the second, and compares what they mean.
 pub fn equal(a: &[u8], b: &[u8]) -> Compared
@@ -43,21 +29,6 @@ pub fn equal(a: &[u8], b: &[u8]) -> Compared
         Outcome::Read(m) => {
             let table = first.parameters;
             equal_to(a, m, table, b)
-        }
-    }
-}
-
-// The charset that the media type states, or the one that its type has without it.
-pub fn effective_charset(s: &[u8]) -> Charset
-    ensures { λ r. ⌜ charset-verdict r ≡ header charsets (now (s .entry)) ⌝ }
-{
-    let reading = media::read(s);
-    let outcome = reading.outcome;
-    match outcome {
-        Outcome::Refused(r) => Charset::Refused(r),
-        Outcome::Read(m) => {
-            let table = reading.parameters;
-            charset_of(s, m, table)
         }
     }
 }
@@ -226,28 +197,4 @@ fn unquoted_place(s: &[u8], i: usize, quoted: bool) -> usize
         return i;
     }
     i + 1
-}
-
-// The value of `charset`, or what holds without it.
-fn charset_of(s: &[u8], m: MediaType, table: Table) -> Charset
-    requires { ⌜ PlacedMedia (now s) m table ⌝ }
-    ensures { λ r. ⌜ charset-verdict r ≡ G.value (effective-at (now (s .entry)) m (take (m .count) table)) ⌝ }
-{
-    let count = m.count;
-    let mut i = 0;
-    while i < count {
-        let p = table[i];
-        if octets::same_ignoring_case(part(s, p.start, p.length), b"charset") {
-            return Charset::Stated {
-                start: p.value_start,
-                length: p.value_length,
-                quoted: p.quoted,
-            };
-        }
-        i += 1;
-    }
-    if octets::same_ignoring_case(part(s, m.type_start, m.type_length), b"text") {
-        return Charset::Latin1;
-    }
-    Charset::NotStated
 }

@@ -1,4 +1,3 @@
 pub mod Scan
-pub mod Text
 pub mod Values
 pub mod Demands

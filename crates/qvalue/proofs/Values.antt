@@ -1,54 +1,27 @@
--- What the parts of a text tell of its value: no text of the same value is shorter than the one that the writer gives, and the value is at
--- most 1000.
+-- What the parts of a text tell of its value: it is at most 1000.
 use Prim.Native.Nat.{ℕ, zero, suc, _+_, _-_, _*_, _≤_}
 use native.Mathlib.Omega.{arith}
 use mathlib.Core.Path.{_≡_, _∙_}
 use mathlib.Core.Logic.{inl, inr}
 use mathlib.Core.List.{List, [], _∷_, _++_, append-nil}
 use lib.Dec.{T, leb, ltb, eqb, leb→le, eqb→eq}
-use lib.ListN.{length, getD, take}
+use lib.ListN.{getD, take}
 use Rattle.grammar.specs.Grammar.{Class, Part, Parses, past, byte, _⨾_, up-to, part, just, T-right}
 use Rattle.octets.specs.Bytes.{digit?}
 use Rattle.octets.specs.Classes.{DIGIT}
 use Rattle.octets.specs.Numbers.{number}
 use Rattle.qvalue.specs.Grammar.{Name, whole, decimals, qvalue, thousandths, largest}
-use Rattle.qvalue.specs.Writing.{qvalue-text}
 use Rattle.qvalue.proofs.Scan.{padded}
-use Rattle.qvalue.proofs.Text.{no-digit, at-most-three, at-most-four, at-most-five}
 
 -- digits with zeros behind them, as thousandths
-abbrev worth : List ℕ → ℕ
+abbrev pub worth : List ℕ → ℕ
 worth t = number (take 4 (t ++ (48 ∷ 48 ∷ 48 ∷ [])))
 
-one : (b : ℕ) → length (qvalue-text (worth (b ∷ []))) ≡ 1
-one b = no-digit (worth (b ∷ [])) (omega arith)
-
-behind-point : (b : ℕ) (t : List ℕ) → length (qvalue-text (worth (b ∷ t))) ≤ 2 + length t
-behind-point b [] = omega (arith, one b)
-behind-point b (x ∷ []) = at-most-three (worth (b ∷ x ∷ [])) (omega arith)
-behind-point b (x ∷ y ∷ []) = at-most-four (worth (b ∷ x ∷ y ∷ [])) (omega arith)
-behind-point b (x ∷ y ∷ z ∷ t) = omega (arith, at-most-five (worth (b ∷ x ∷ y ∷ z ∷ t)))
-
 -- bytes outside parts have no parts
-no-parts : (n : ℕ) (c : Class) (i : ℕ) (s : List ℕ) (ps : List (Part Name)) → Parses (up-to n (byte c)) i s ps → ps ≡ []
+pub no-parts : (n : ℕ) (c : Class) (i : ℕ) (s : List ℕ) (ps : List (Part Name)) → Parses (up-to n (byte c)) i s ps → ps ≡ []
 no-parts zero c i s ps (es, ep) = ep
 no-parts (suc n) c i s ps (inl (es, ep)) = ep
 no-parts (suc n) c i s ps (inr (t, u, qs, rs, es, ep, (b, et, h, e), p)) = ep ∙ rw (e, no-parts n c (past i t) u rs p)
-
-form-shortest : (w : ℕ) (k : T (ltb w 256)) (c : Class) (s : List ℕ) (ps : List (Part Name))
-    → Parses (part whole (byte (just w k)) ⨾ decimals c) 0 s ps
-    → length (qvalue-text (thousandths ps)) ≤ length s
-form-shortest w k c s ps (t, u, qs, rs, es, ep, (qs′, eq, (b, et, h, e)), inl (eu, er)) =
-    rw (ep, eq, e, er, es, et, eu) (omega (arith, one b))
-form-shortest w k c s ps (t, u, qs, rs, es, ep, (qs′, eq, (b, et, h, e)), inr (t₂, u₂, qs₂, rs₂, eu, er, (b₂, et₂, h₂, e₂), (qs₃, e₃, p))) =
-    rw (ep, eq, e, er, e₂, e₃, no-parts 3 c (past (past 0 t) t₂) u₂ qs₃ p, es, et, eu, et₂, append-nil u₂)
-    (omega (arith, behind-point b u₂))
-
-pub shortest-text : (s : List ℕ) (ps : List (Part Name)) → Parses qvalue 0 s ps → length (qvalue-text (thousandths ps)) ≤ length s
-shortest-text s ps (inl p) = form-shortest 48 tt DIGIT s ps p
-shortest-text s ps (inr p) = form-shortest 49 tt (just 48 tt) s ps p
-
--- ## At most 1000
 
 -- no digit is above m
 worth-small : (b m : ℕ) (t : List ℕ) → ((k : ℕ) → getD t k 48 ≤ m) → worth (b ∷ t) ≤ (b - 48) * 1000 + (m - 48) * 111

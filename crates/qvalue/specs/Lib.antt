@@ -1,4 +1,3 @@
 pub mod Grammar
 pub mod Reading
-pub mod Writing
 pub mod helpers

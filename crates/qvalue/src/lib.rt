@@ -1,30 +1,20 @@
-// Quality values: RFC 2616 3.9.
+// Quality values read: RFC 2616 3.9.
 ghost use mathlib.Core.Path.{_≡_};
 ghost use mathlib.Core.Bool.{true};
-ghost use mathlib.Core.List.{_++_};
 ghost use Prim.Native.Nat.{_≤_};
-ghost use lib.ListN.{length, drop};
 ghost use Rattle.grammar.specs.helpers.Judge.{header};
 ghost use Rattle.octets.specs.Bytes.{digit?};
-ghost use Rattle.octets.specs.Writing.{written};
 ghost use Rattle.qvalue.specs.Grammar.{rules};
 ghost use Rattle.qvalue.specs.Reading.{verdict};
 ghost use Rattle.qvalue.specs.helpers.Scan.{AfterWhole, byte-or-zero, digit-value};
-ghost use Rattle.qvalue.specs.Writing.{last-digit, qvalue-text, qvalue-writing, qvalue-output};
 use octets::Class;
 use octets::MALFORMED;
-use octets::OUT_OF_RANGE;
-use octets::OUTPUT_TOO_SHORT;
 use octets::Refusal;
 use octets::VALUE_LIMIT;
 use octets::VALUE_TOO_LONG;
-use octets::Written;
 
 // The longest qvalue.
 const LONGEST: usize = 5;
-
-// The largest qvalue, in thousandths.
-const ONE: u16 = 1000;
 
 const ZERO: Class = [0x1000000000000, 0, 0, 0];
 
@@ -63,22 +53,6 @@ pub fn read(s: &[u8]) -> Reading
     })
 }
 
-// Writes the shortest form at the front of `out`, and keeps the rest of `out`.
-pub fn write(thousandths: u16, out: &mut [u8]) -> Written
-    ensures answers { λ r. ⌜ written r ≡ qvalue-writing thousandths (length (now (out .entry))) ⌝ }
-    ensures writes { λ _. ⌜ now (out .exit) ≡ qvalue-output thousandths (now (out .entry)) ⌝ }
-{
-    if thousandths > ONE {
-        return octets::unwritten(OUT_OF_RANGE);
-    }
-    let len = text_len(thousandths);
-    if out.len() < len {
-        return octets::unwritten(OUTPUT_TOO_SHORT);
-    }
-    put_text(thousandths, len, out);
-    Written::Length(len)
-}
-
 // Reads on behind the first digit, whose value is `whole`; the digits behind the point are of that class.
 fn read_fraction(s: &[u8], whole: u16, class: Class) -> Reading
     requires { ⌜ AfterWhole (now s) whole class ⌝ }
@@ -115,39 +89,4 @@ fn digit_at(s: &[u8], i: usize) -> u16
     ensures { λ r. ⌜ (r ≡ digit-value (now (s .entry)) i) × (r ≤ 9) ⌝ }
 {
     if i < s.len() { (s[i] - b'0') as u16 } else { 0 }
-}
-
-fn text_len(q: u16) -> usize
-    ensures { λ r. ⌜ r ≡ length (qvalue-text q) ⌝ }
-{
-    if q % 1000 == 0 {
-        1
-    } else if q % 100 == 0 {
-        3
-    } else if q % 10 == 0 {
-        4
-    } else {
-        5
-    }
-}
-
-// Puts the first `len` bytes of the form with three digits.
-fn put_text(q: u16, len: usize, out: &mut [u8])
-    requires { ⌜ (len ≡ length (qvalue-text q)) × (len ≤ length (now out)) ⌝ }
-    ensures { λ _. ⌜ now (out .exit) ≡ qvalue-text q ++ drop (length (qvalue-text q)) (now (out .entry)) ⌝ }
-{
-    let full = [
-        last_digit(q / 1000),
-        b'.',
-        last_digit(q / 100),
-        last_digit(q / 10),
-        last_digit(q),
-    ];
-    text::put_bytes(&full[..len], out, 0);
-}
-
-fn last_digit(n: u16) -> u8
-    ensures { λ r. ⌜ r ≡ last-digit n ⌝ }
-{
-    b'0' + (n % 10) as u8
 }

@@ -1,44 +1,17 @@
--- A loop that copies a run of bytes, and bytes that are put one behind the other.
+-- Bytes at a place, and bytes that are put one behind the other.
 use mathlib.Core.Path.{_≡_, sym, _∙_, ap, ap₂}
-use mathlib.Core.List.{List, [], _∷_, _++_, append-assoc, append-nil}
-use Prim.Native.Nat.{ℕ, suc, _+_, _-_, _<_, _≤_}
-use native.Mathlib.Numerals.{add-one}
+use mathlib.Core.List.{List, [], _++_, append-assoc, append-nil}
+use Prim.Native.Nat.{ℕ, _+_, _-_, _<_, _≤_}
 use native.Mathlib.Omega.{arith}
 use lib.Dec.{leb}
-use lib.ListN.{length, getD, take, drop, set, length-append, length-drop, drop-of-length-le, take-append-drop}
-use lib.Seq.{take-suc, take-at, take-all, drop-cons, drop-drop, drop-append-add, set-at, length-take-le}
+use lib.ListN.{length, take, drop, length-append, length-drop, drop-of-length-le, take-append-drop}
+use lib.Seq.{take-at, take-all, drop-drop, drop-append-add, length-take-le}
 use borrow.Author.Tests.{le-leb, lt-leb, leb-true, leb-false}
 use Rattle.numerals.specs.Numeral as Numeral
 use Rattle.numerals.proofs.Digits.{split, at-true, at-false, put-fits, put-short}
+use Rattle.copying.proofs.Runs.{put-all}
 use Rattle.text.specs.Placing.{fits, placed, behind}
 
--- the first k bytes are copied
-pub record Front (old src new : List ℕ) (k : ℕ) : Type 0 where
-  pub is : new ≡ take k src ++ drop k old
-  pub within : k ≤ length src
-
-module _ (old src new : List ℕ) (k : ℕ) (even : length old ≡ length src) (h : Front old src new k) where
-  pub front-length : length new ≡ length old
-  front-length =
-      let w = h .within in
-      let n = length-append (take k src) (drop k old) in
-      omega (arith, ap length (h .is), length-take-le k src (h .within), length-drop k old)
-
-  pub front-on : k < length src → Front old src (set new k (getD src k 0)) (k + 1)
-  front-on lt = record {
-    is = ap (λ (z : List ℕ). set z k (getD src k 0)) (h .is ∙ ap (λ (z : List ℕ). take k src ++ z) (drop-cons old k 0 (omega arith)))
-        ∙ set-at (take k src) (getD old k 0) (drop (suc k) old) (getD src k 0) k (length-take-le k src (h .within))
-        ∙ sym (append-assoc (take k src) (getD src k 0 ∷ []) (drop (suc k) old))
-        ∙ ap (λ (z : List ℕ). z ++ drop (suc k) old) (sym (take-suc src k 0 lt))
-        ∙ ap (λ (n : ℕ). take n src ++ drop n old) (sym (add-one k));
-    within = omega arith;
-  }
-
-  pub front-all : length src ≤ k → new ≡ src
-  front-all ge =
-      h .is ∙ ap₂ (λ (y z : List ℕ). y ++ z) (take-all k src ge) (drop-of-length-le old {i = k} (omega arith)) ∙ append-nil src
-
--- ## Bytes at a place
 module _ (old : List ℕ) (at : ℕ) (xs : List ℕ) where
   pub placed-fits : at + length xs ≤ length old → placed old at xs ≡ take at old ++ (xs ++ drop (at + length xs) old)
   unfolding placed
@@ -77,13 +50,16 @@ module _ (old : List ℕ) (at : ℕ) (xs : List ℕ) where
   pub puts-nothing : length old < at + length xs → (at ≡ behind old at xs) × (old ≡ placed old at xs)
   puts-nothing h = (sym (behind-short h), sym (placed-short h))
 
-  -- and where it does: a part was lent, and came back as xs
-  pub puts-part : (part : List ℕ) (e : ℕ) → at + length xs ≤ length old → e ≡ at + length xs → part ≡ xs
+  -- and where it does: a part of its length was lent, and xs was put there
+  pub puts-part : (part : List ℕ) (e : ℕ) → at + length xs ≤ length old → e ≡ at + length xs
+      → part ≡ Numeral.put xs (take (e - at) (drop at old))
       → (e ≡ behind old at xs) × (take at old ++ (part ++ drop (e - at) (drop at old)) ≡ placed old at xs)
   puts-part part e h n p =
-      let k : at + (e - at) ≡ at + length xs = omega arith in (
+      let k : at + (e - at) ≡ at + length xs = omega arith in
+      let l : length (take (e - at) (drop at old)) ≡ length xs =
+      length-take-le (e - at) (drop at old) (omega (arith, length-drop at old)) ∙ omega arith in (
         n ∙ sym (behind-fits h),
-        ap₂ (λ (y z : List ℕ). take at old ++ (y ++ z)) p (drop-drop (e - at) at old ∙ ap (λ (i : ℕ). drop i old) k) ∙ sym (placed-fits h),
+        ap₂ (λ (y z : List ℕ). take at old ++ (y ++ z)) (p ∙ put-all (take (e - at) (drop at old)) xs l) (drop-drop (e - at) at old ∙ ap (λ (i : ℕ). drop i old) k) ∙ sym (placed-fits h),
       )
 
 -- what is put behind what was put is put together with it

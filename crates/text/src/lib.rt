@@ -1,6 +1,5 @@
 // Bytes and numbers put at a place of lent output.
 ghost use mathlib.Core.Path.{_≡_};
-ghost use lib.ListN.{length};
 ghost use Rattle.numerals.specs.Numeral.{numeral};
 ghost use Rattle.text.specs.Placing.{placed, behind};
 
@@ -18,7 +17,7 @@ pub fn put_bytes(src: &[u8], out: &mut [u8], at: usize) -> usize
         return at;
     }
     let end = at + src.len();
-    copy(src, &mut out[at..end]);
+    copying::copy(&mut out[at..end], src);
     end
 }
 
@@ -48,15 +47,4 @@ pub fn put_hex(n: u64, out: &mut [u8], at: usize) -> usize
         return at;
     }
     at + width
-}
-
-fn copy(src: &[u8], dst: &mut [u8])
-    requires { ⌜ length (now dst) ≡ length (now src) ⌝ }
-    ensures { λ _. ⌜ now (dst .exit) ≡ now (src .entry) ⌝ }
-{
-    let mut i = 0;
-    while i < src.len() {
-        dst[i] = src[i];
-        i += 1;
-    }
 }

@@ -1,10 +1,5 @@
 pub mod Tables
 pub mod Text
 pub mod Scan
-pub mod Resolved
-pub mod Escapes
-pub mod Meaning
-pub mod Pages
-pub mod Equality
 pub mod Demands
 pub mod Examples

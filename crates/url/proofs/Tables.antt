@@ -10,10 +10,6 @@ pub host-bits : Bits (0x3ff600000000000 ∷ 0x7fffffe07fffffe ∷ 0 ∷ 0 ∷ []
 unfolding host? digit? letter?
 host-bits = bits (0x3ff600000000000 ∷ 0x7fffffe07fffffe ∷ 0 ∷ 0 ∷ []) host? refl
 
-pub unreserved-bits : Bits (0x3ff678200000000 ∷ 0x47fffffe87fffffe ∷ 0 ∷ 0 ∷ []) unreserved?
-unfolding unreserved? digit? letter?
-unreserved-bits = bits (0x3ff678200000000 ∷ 0x47fffffe87fffffe ∷ 0 ∷ 0 ∷ []) unreserved? refl
-
 pub path-bits : Bits (0x2fffffd200000000 ∷ 0x47fffffe87ffffff ∷ 0 ∷ 0 ∷ []) path?
 unfolding path? unreserved? digit? letter?
 path-bits = bits (0x2fffffd200000000 ∷ 0x47fffffe87ffffff ∷ 0 ∷ 0 ∷ []) path? refl

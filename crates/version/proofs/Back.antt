@@ -16,12 +16,12 @@ use Rattle.scans.specs.helpers.Words.{agreeing}
 use Rattle.scans.specs.helpers.Decimals.{decimal-at}
 use Rattle.numerals.specs.Numeral.{glyph, digits, width-in, width, numeral}
 use Rattle.numerals.proofs.Reading.{Stops, end, other, numeral-reads}
+use Rattle.version_writer.proofs.Writer.{text-length, few-digits}
 use Rattle.version.specs.declared.Version.{Version}
 use Rattle.version.specs.Grammar.{http, largest, rules}
 use Rattle.version.specs.Reading.{http-1-1, http-1-0}
 use Rattle.version.specs.Writing.{version-text}
 use Rattle.version.proofs.Scan.{major-reads, version-reads}
-use Rattle.version.proofs.Write.{text-length, few-digits}
 
 module _ (v : Version) (h : v .major ≤ largest) (k : v .minor ≤ largest) where
   abbrev major : List ℕ
@@ -38,7 +38,7 @@ module _ (v : Version) (h : v .major ≤ largest) (k : v .minor ≤ largest) whe
   e = 5 + length major
 
   short : length (version-text v) ≤ 8192
-  short = omega (arith, text-length v, few-digits (v .major) h, few-digits (v .minor) k)
+  short = omega (arith, text-length (v .major) (v .minor), few-digits (v .major) h, few-digits (v .minor) k)
 
   named : agreeing http (version-text v) ≡ 5
   unfolding lower
@@ -78,8 +78,8 @@ module _ (v : Version) (h : v .major ≤ largest) (k : v .minor ≤ largest) whe
   text-reads =
       let major-there = numeral-reads http (code "." ∷ minor) (v .major) largest h stops in
       version-reads (version-text v) (v .major) e
-      (major-reads (version-text v) short named (omega (arith, text-length v)) (v .major) e major-there)
-      (omega (arith, text-length v)) pointed (v .minor) ((e + 1) + length minor) minor-there (omega (arith, text-length v))
+      (major-reads (version-text v) short named (omega (arith, text-length (v .major) (v .minor))) (v .major) e major-there)
+      (omega (arith, text-length (v .major) (v .minor))) pointed (v .minor) ((e + 1) + length minor) minor-there (omega (arith, text-length (v .major) (v .minor)))
 
 -- the texts of the versions that have names
 pub written-1-1 : version-text http-1-1 ≡ bytes "HTTP/1.1"

@@ -17,6 +17,7 @@ use Rattle.grammar.proofs.Demands.{answered-exactly}
 use Rattle.scans.proofs.Limits.{number-stays}
 use Rattle.octets.specs.Bytes.{digit?}
 use Rattle.octets.proofs.Writing.{stands-in-front}
+use Rattle.version_writer.proofs.Writer.{both-within}
 use Rattle.version.specs.declared.Version.{Version}
 use Rattle.version.specs.declared.Order.the-variants.{Less, Equal, Greater}
 use Rattle.version.specs.Grammar.{version, largest, rules}
@@ -24,7 +25,6 @@ use Rattle.version.specs.Reading.{precedence, http-1-1, http-1-0}
 use Rattle.version.specs.Writing.{version-text, too-large, version-writing, version-output}
 use Rattle.version.proofs.Back.{text-reads, written-1-1, written-1-0}
 use Rattle.version.proofs.Ordering.{less-is, equal-is, greater-is}
-use Rattle.version.proofs.Write.{both-within}
 
 one-way : T (deterministic? version)
 unfolding lower digit?
@@ -50,7 +50,7 @@ module _ (v : Version) (h : v .major ≤ largest) (k : v .minor ≤ largest) whe
       → (version-writing v (length old) ≡ value (length (version-text v)))
       × (header rules (take (length (version-text v)) (version-output v old)) ≡ value v)
   reads-back-from old room =
-      let w = stands-in-front (too-large v) (version-text v) old (both-within v h k) room in
+      let w = stands-in-front (too-large v) (version-text v) old (both-within (v .major) (v .minor) h k) room in
       (w .0, ap (header rules) (w .1) ∙ reads-back)
 
 -- "Version 1.1 and version 1.0 are named constants of the version itself": each is written as its text, and its text reads as it. That the

@@ -1,5 +1,4 @@
 pub mod Scan
-pub mod Write
 pub mod Back
 pub mod Ordering
 pub mod Demands

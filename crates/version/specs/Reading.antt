@@ -4,23 +4,15 @@ use mathlib.Core.Bool.{cond}
 use lib.Dec.{ltb}
 use Rattle.grammar.specs.Reading as G
 use Rattle.grammar.specs.Reading.{Verdict}
-use Rattle.grammar.specs.Comparing.{Comparison, outcome, refused-at}
 use Rattle.version.specs.declared.Version.{Version}
 use Rattle.version.specs.declared.Reading.{Reading}
 use Rattle.version.specs.declared.Reading.the-variants.{Read, Refused}
 use Rattle.version.specs.declared.Order.{Order}
 use Rattle.version.specs.declared.Order.the-variants.{Less, Equal, Greater}
-use Rattle.version.specs.declared.Compared.{Compared}
-use Rattle.version.specs.declared.Compared.the-variants.{Ordered, FirstRefused, SecondRefused}
 
 abbrev pub verdict : Reading → Verdict Version
 verdict (Read v) = G.value v
 verdict (Refused r) = G.refused (r .number) (r .place)
-
-abbrev pub comparison : Compared → Comparison Order
-comparison (Ordered o) = outcome o
-comparison (FirstRefused r) = refused-at 1 (r .number) (r .place)
-comparison (SecondRefused r) = refused-at 2 (r .number) (r .place)
 
 -- by major, then minor, as numbers
 abbrev pub precedence : Version → Version → Order

@@ -1,20 +1,14 @@
 // HTTP versions: RFC 2616 3.1.
 ghost use mathlib.Core.Path.{_≡_};
-ghost use mathlib.Core.Bool.{false};
-ghost use mathlib.Core.List.{_++_};
-ghost use Prim.Native.Nat.{_≤_};
-ghost use lib.ListN.{length, drop};
-ghost use Rattle.grammar.specs.Comparing.{compare as comparing};
+ghost use lib.ListN.{length};
 ghost use Rattle.grammar.specs.helpers.Judge.{header};
 ghost use Rattle.version.specs.Grammar.{rules};
-ghost use Rattle.version.specs.Reading.{verdict, comparison, precedence, numbered, http-1-1, http-1-0};
+ghost use Rattle.version.specs.Reading.{verdict, precedence, numbered, http-1-1, http-1-0};
 ghost use Rattle.version.specs.helpers.Scan.{AfterMajor};
-ghost use Rattle.version.specs.Writing.{version-text, too-large, version-writing, version-output};
+ghost use Rattle.version.specs.Writing.{version-writing, version-output};
 ghost use Rattle.octets.specs.Writing.{written};
 use octets::MALFORMED;
 use octets::NUMBER_ABOVE_LIMIT;
-use octets::OUT_OF_RANGE;
-use octets::OUTPUT_TOO_SHORT;
 use octets::Refusal;
 use octets::VALUE_LIMIT;
 use octets::VALUE_TOO_LONG;
@@ -41,13 +35,6 @@ pub enum Order {
     Less,
     Equal,
     Greater,
-}
-
-// How two versions given as bytes compare, or which of them was refused.
-pub enum Compared {
-    Ordered(Order),
-    FirstRefused(Refusal),
-    SecondRefused(Refusal),
 }
 
 impl Version {
@@ -111,51 +98,8 @@ impl Version {
         ensures answers { λ r. ⌜ written r ≡ version-writing self (length (now (out .entry))) ⌝ }
         ensures writes { λ _. ⌜ now (out .exit) ≡ version-output self (now (out .entry)) ⌝ }
     {
-        if self.major as u64 > NUMBER_LIMIT {
-            return octets::unwritten(OUT_OF_RANGE);
-        }
-        if self.minor as u64 > NUMBER_LIMIT {
-            return octets::unwritten(OUT_OF_RANGE);
-        }
-        let len = text_len(self);
-        if out.len() < len {
-            return octets::unwritten(OUTPUT_TOO_SHORT);
-        }
-        put_text(self, out);
-        Written::Length(len)
+        version_writer::write(self.major, self.minor, out)
     }
-
-    // Reads the first, then the second, and compares them.
-    pub fn compare_bytes(a: &[u8], b: &[u8]) -> Compared
-        ensures { λ r. ⌜ comparison r ≡ comparing precedence (header rules (now (a .entry))) (header rules (now (b .entry))) ⌝ }
-    {
-        match Version::read(a) {
-            Reading::Refused(r) => Compared::FirstRefused(r),
-            Reading::Read(first) => match Version::read(b) {
-                Reading::Refused(r) => Compared::SecondRefused(r),
-                Reading::Read(second) => Compared::Ordered(first.compare(second)),
-            },
-        }
-    }
-}
-
-fn text_len(v: Version) -> usize
-    requires { ⌜ too-large v ≡ false ⌝ }
-    ensures { λ r. ⌜ r ≡ length (version-text v) ⌝ }
-{
-    let major = numerals::decimal_width(v.major as u64);
-    let minor = numerals::decimal_width(v.minor as u64);
-    NAME_LEN + major + 1 + minor
-}
-
-fn put_text(v: Version, out: &mut [u8])
-    requires { ⌜ length (version-text v) ≤ length (now out) ⌝ }
-    ensures { λ _. ⌜ now (out .exit) ≡ version-text v ++ drop (length (version-text v)) (now (out .entry)) ⌝ }
-{
-    let name_end = text::put_bytes(b"HTTP/", out, 0);
-    let major_end = text::put_decimal(v.major as u64, out, name_end);
-    let point_end = text::put_bytes(b".", out, major_end);
-    text::put_decimal(v.minor as u64, out, point_end);
 }
 
 // Reads on from the place behind the major number.

@@ -140,15 +140,6 @@ pub struct QzDate {
     pub second: u32,
 }
 
-/// QzCharset.kind where number is 0: there is none.
-pub const NO_CHARSET: u8 = 0;
-
-/// It is the value of the parameter.
-pub const STATED_CHARSET: u8 = 1;
-
-/// It is that of type `text` without the parameter.
-pub const ISO_8859_1: u8 = 2;
-
 /// An attribute, and its value without its quotes; pairs stay as sent.
 #[repr(C)]
 #[derive(Clone, Copy)]
@@ -176,6 +167,18 @@ pub struct QzMedia {
     pub parameters: [QzParameter; 16],
 }
 
+/// How many entries QzMedia.parameters has.
+pub const PARAMETERS: usize = 16;
+
+/// QzCharset.kind where number is 0: there is none.
+pub const NO_CHARSET: u8 = 0;
+
+/// It is the value of the parameter.
+pub const STATED_CHARSET: u8 = 1;
+
+/// It is that of type `text` without the parameter.
+pub const ISO_8859_1: u8 = 2;
+
 /// The effective charset of a media type.
 #[repr(C)]
 #[derive(Clone, Copy)]
@@ -189,9 +192,6 @@ pub struct QzCharset {
     pub length: usize,
     pub quoted: bool,
 }
-
-/// How many entries QzMedia.parameters has.
-pub const PARAMETERS: usize = 16;
 
 /// Where a part stands in the input.
 #[repr(C)]

@@ -1,7 +1,7 @@
 -- `bench::put_last` meets its contract. By whether bytes are held.
 use native.Mathlib.Omega.{arith}
-use Rattle.bench.proofs.Says.{said-short}
-use Rattle.bench.proofs.Pieces.{last-nothing, last-answered}
+use Rattle.report.proofs.Says.{said-short}
+use Rattle.report.proofs.Pieces.{last-nothing, last-answered}
 use borrow.Author.Needs.{needs}
 use Rattle.bench.proofs.put_last.Statement.{statement}
 use Rattle.bench.proofs.put_last.Tie as tie

@@ -7,8 +7,8 @@ use lib.ListN.{length}
 use lib.Seq.{length-take-le}
 use Rattle.chunked.specs.Verdict.{verdict}
 use Rattle.lines.specs.Reading.{spelled, hex-answer}
-use Rattle.bench.specs.Saying.{said-answer}
-use Rattle.bench.proofs.Says.{one-put, said-bad, said-good, said-decoded, shows-line}
+use Rattle.report.specs.Saying.{said-answer}
+use Rattle.report.proofs.Says.{one-put, said-bad, said-good, said-decoded, shows-line}
 use borrow.Author.Needs.{needs}
 use Rattle.bench.proofs.put_line.Statement.{statement}
 use Rattle.bench.proofs.put_line.Tie as tie
@@ -51,16 +51,7 @@ decode-requires : tie.Need-decode-requires
 decode-requires c κs = search needs
 
 put-answer-requires : tie.Need-put-answer-requires
-put-answer-requires c κs =
-    let at-decode = c .before .before .before in
-    let at-bytes = at-decode .before .before .before .before in
-    let at-hex = at-bytes .before .before .before .before in
-    let start = at-hex .before .before .before .before .before .before in
-    let is = said-decoded (start .args .line .now) (at-hex .from-hex .result) (at-bytes .bytes .given .0 .0) (start .args .frame .now)
-    (at-hex .from-hex .last .1 .0) (start .pre .0) (at-hex .from-hex .ensures .0) (at-bytes .bytes .given .1)
-    (at-hex .from-hex .ensures .1)
-    (length (start .args .room .now)) (verdict (at-decode .decode .result)) (start .pre .1) (at-decode .decode .ensures .0) in
-    omega (arith, start .pre .2, ap length is)
+put-answer-requires c κs = search needs
 
 same-length : tie.Need-same-length
 same-length c = search needs
@@ -103,8 +94,11 @@ returns-2 c =
     (at-hex .from-hex .last .1 .0) (start .pre .0) (at-hex .from-hex .ensures .0) (at-bytes .bytes .given .1)
     (at-hex .from-hex .ensures .1)
     (length (start .args .room .now)) (verdict (at-decode .decode .result)) (start .pre .1) (at-decode .decode .ensures .0) in
-    shows-line (start .args .line .now) (said-answer (verdict (at-decode .decode .result))) (start .args .out .now)
-    (at-put .put-answer .last .1 .0) (start .args .at) (at-put .put-answer .result) is (at-put .put-answer .ensures)
+    let says = said-answer (verdict (at-decode .decode .result)) in
+    shows-line (start .args .line .now) says (start .args .out .now) (at-put .put-answer .last .1 .0) (start .args .at)
+    (at-put .put-answer .result) is
+    (one-put (start .args .out .now) (start .args .at) says (at-put .put-answer .last .1 .0) (at-put .put-answer .result)
+    (omega (arith, start .pre .2, ap length is)) (at-put .put-answer .ensures .0) (at-put .put-answer .ensures .1))
 
 pub put-line-spec : {M : Type 1} → statement M
 put-line-spec =

@@ -5,8 +5,8 @@ use native.Mathlib.Omega.{arith}
 use borrow.Author.Needs.{needs}
 use lib.ListN.{length, take}
 use lib.Seq.{length-take-le}
-use Rattle.bench.proofs.Pieces.{Spoken, spoken-start, out-length, next-fits, spoken-all}
-use Rattle.bench.proofs.Pieces.{part, line-length, held-short, taken-within, spoken-line, spoken-on}
+use Rattle.bench.proofs.Walk.{Spoken, spoken-start, out-length, next-fits, spoken-all}
+use Rattle.bench.proofs.Walk.{part, line-length, held-short, taken-within, spoken-line, spoken-on}
 use Rattle.bench.proofs.put_piece.Statement.{statement}
 use Rattle.bench.proofs.put_piece.Tie as tie
 

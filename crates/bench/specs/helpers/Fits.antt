@@ -3,8 +3,8 @@ use mathlib.Core.List.{List}
 use mathlib.Core.Path.{_≡_}
 use Prim.Native.Nat.{ℕ, _+_, _*_, _≤_}
 use lib.ListN.{length}
-use Rattle.bench.specs.Saying.{ROOM, said}
-use Rattle.bench.specs.Calls.{LINE_LENGTH}
+use Rattle.report.specs.Saying.{ROOM, said}
+use Rattle.report.specs.Calls.{LINE_LENGTH}
 
 abbrev pub Buffers : List ℕ → List ℕ → List ℕ → List ℕ → List ℕ → Type 0
 Buffers piece line frame room out =

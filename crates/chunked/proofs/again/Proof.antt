@@ -1,7 +1,6 @@
 -- `chunked::again` meets its contract.
 use native.Mathlib.Omega.{arith}
 use borrow.Author.Needs.{needs}
-use borrow.Author.Tests.{not-false}
 use mathlib.Core.Path.{sym, _∙_}
 use Rattle.framing.proofs.Cases.{false-true}
 use Rattle.chunked.proofs.Chunks.{same-chunk}
@@ -24,11 +23,18 @@ returns-4 : tie.Need-returns-4
 returns-4 c = λ e. false-true e
 
 returns-5 : tie.Need-returns-5
-returns-5 c = λ e.
-    let fitting = c .before .before .before .before .before in
-    let start = fitting .before .before .before .before .before .before .before .before .before in (
+returns-5 c = λ e. false-true e
+
+returns-6 : tie.Need-returns-6
+returns-6 c = λ e. false-true e
+
+returns-7 : tie.Need-returns-7
+returns-7 c = λ e.
+    let lf = c .before .before .before .before .before in
+    let cr = lf .before .before in
+    let start = cr .before .before .before .before .before .before .before .before .before .before in (
       omega arith,
-      same-chunk (start .pre .1) (omega arith) (fitting .before .crlf-at .ensures (not-false _ (fitting .if4 .left)))
+      same-chunk (start .pre .1) (omega arith) (record { inside = omega arith; cr = cr .if5 .left; lf = lf .if6 .left })
           (sym (c .same .ensures) ∙ e),
     )
 
@@ -42,9 +48,14 @@ again-spec =
     (λ c. search needs)
     returns-3
     (λ c. search needs)
-    (λ c κs. search needs)
+    (λ c. search needs)
     returns-4
     (λ c. search needs)
+    returns-5
+    (λ c. search needs)
+    (λ c. search needs)
+    returns-6
+    (λ c. search needs)
     (λ c. search needs)
     (λ c. search needs)
     (λ c. search needs)
@@ -53,4 +64,4 @@ again-spec =
     (λ c. search needs)
     (λ c. search needs)
     (λ c κs. search needs)
-    returns-5)
+    returns-7)

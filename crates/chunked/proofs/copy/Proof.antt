@@ -2,12 +2,11 @@
 use native.Mathlib.Omega.{arith}
 use borrow.Author.Needs.{needs}
 use mathlib.Core.Path.{_≡_, subst}
-use Prim.Native.Nat.{ℕ, _+_, _-_}
+use Prim.Native.Nat.{ℕ, _-_}
 use lib.ListN.{length}
 use Rattle.chunked.specs.declared.Found.{Found}
 use Rattle.chunked.specs.helpers.Passes.{Copied, Known, ChunkRead}
 use Rattle.chunked.proofs.Passes.{first-fits}
-use Rattle.chunked.proofs.Runs.{parts-even}
 use Rattle.chunked.proofs.Chunks.{none-known, chunk-known}
 use Rattle.chunked.proofs.Copies.{copied-start, copied-length, copied-fits, copied-on, read-copied-on, copied-all}
 use Rattle.chunked.proofs.copy.Statement.{statement}
@@ -44,45 +43,37 @@ add-start c =
     let r = c .before .before .again .ensures (c .before .if1 .taken) in
     omega (arith, r .1 .end .inside)
 
-add-copy-run : tie.Need-add-copy-run Inv-loop μ-loop
-add-copy-run c =
+add-copy : tie.Need-add-copy Inv-loop μ-loop
+add-copy c =
     let t = c .before .before in
     omega (arith, t .before .again .ensures (t .if1 .taken) .0, first-fits (t .before .before .before .loop .inv .0 .at))
 
-sub-copy-run : tie.Need-sub-copy-run Inv-loop μ-loop
-sub-copy-run c = omega arith
+sub-copy : tie.Need-sub-copy Inv-loop μ-loop
+sub-copy c = omega arith
 
-part-copy-run-start : tie.Need-part-copy-run-start Inv-loop μ-loop
-part-copy-run-start c = omega arith
+part-copy-start : tie.Need-part-copy-start Inv-loop μ-loop
+part-copy-start c = omega arith
 
-part-copy-run-end : tie.Need-part-copy-run-end Inv-loop μ-loop
-part-copy-run-end c =
+part-copy-end : tie.Need-part-copy-end Inv-loop μ-loop
+part-copy-end c =
     let t = c .before .before in
     omega (arith, copied-fits (t .before .before .before .loop .inv .0) (t .before .again .ensures (t .if1 .taken) .0))
 
-add-copy-run-2 : tie.Need-add-copy-run-2 Inv-loop μ-loop
-add-copy-run-2 c =
+add-copy-2 : tie.Need-add-copy-2 Inv-loop μ-loop
+add-copy-2 c =
     let t = c .before .before .before .before in
     omega (arith, t .before .again .ensures (t .if1 .taken) .1 .end .inside)
 
-sub-copy-run-2 : tie.Need-sub-copy-run-2 Inv-loop μ-loop
-sub-copy-run-2 c = omega arith
+sub-copy-2 : tie.Need-sub-copy-2 Inv-loop μ-loop
+sub-copy-2 c = omega arith
 
-part-copy-run-start-2 : tie.Need-part-copy-run-start-2 Inv-loop μ-loop
-part-copy-run-start-2 c = omega arith
+part-copy-start-2 : tie.Need-part-copy-start-2 Inv-loop μ-loop
+part-copy-start-2 c = omega arith
 
-part-copy-run-end-2 : tie.Need-part-copy-run-end-2 Inv-loop μ-loop
-part-copy-run-end-2 c =
+part-copy-end-2 : tie.Need-part-copy-end-2 Inv-loop μ-loop
+part-copy-end-2 c =
     let t = c .before .before .before .before in
     omega (arith, t .before .again .ensures (t .if1 .taken) .1 .end .inside)
-
-copy-run-requires : tie.Need-copy-run-requires Inv-loop μ-loop
-copy-run-requires c κs =
-    let t = c .before .before .before .before .before in
-    let l = t .before .before .before in
-    let r = t .before .again .ensures (t .if1 .taken) in
-    parts-even (l .loop .out) (l .before .before .before .args .input .now) (l .loop .written) (l .loop .at + l .loop .last .length)
-    (l .loop .last .size) (copied-fits (l .loop .inv .0) (r .0)) (omega (arith, r .1 .end .inside))
 
 add-at : tie.Need-add-at Inv-loop μ-loop
 add-at c =
@@ -110,7 +101,7 @@ loop-again c =
     let l = t .before .before .before in
     let r = t .before .again .ensures (t .if1 .taken) in (
       copied-on (λ (k : ℕ). omega (arith, l .before .before .shared-slice-known .given k)) _ (l .loop .inv .0) (r .1)
-          (omega (arith, r .0, first-fits (l .loop .inv .0 .at))) (c .before .before .before .before .copy-run .ensures),
+          (omega (arith, r .0, first-fits (l .loop .inv .0 .at))) (c .before .before .before .before .copy .ensures),
       l .loop .inv .1,
     )
 
@@ -126,50 +117,42 @@ returns c =
     let i = c .before .before .before .before .before in
     let s = i .before .before .before .before in
     let r = found (c .before .before) (c .enum-told .given .1) in
-    absurd (omega (arith, r .total (s .pre .0) (s .args .len) (s .pre .1), i .loop-test .taken))
+    absurd (omega (arith, r .total (s .pre .0) (s .pre .1), s .pre .2, i .loop-test .taken))
 
-add-copy-run-3 : tie.Need-add-copy-run-3 Inv-loop μ-loop
-add-copy-run-3 c =
+add-copy-3 : tie.Need-add-copy-3 Inv-loop μ-loop
+add-copy-3 c =
     let z = c .before in
     omega (arith, found (z .before .before) (z .size .given .1) .1)
 
-sub-copy-run-3 : tie.Need-sub-copy-run-3 Inv-loop μ-loop
-sub-copy-run-3 c = omega arith
+sub-copy-3 : tie.Need-sub-copy-3 Inv-loop μ-loop
+sub-copy-3 c = omega arith
 
-part-copy-run-start-3 : tie.Need-part-copy-run-start-3 Inv-loop μ-loop
-part-copy-run-start-3 c = omega arith
+part-copy-start-3 : tie.Need-part-copy-start-3 Inv-loop μ-loop
+part-copy-start-3 c = omega arith
 
-part-copy-run-end-3 : tie.Need-part-copy-run-end-3 Inv-loop μ-loop
-part-copy-run-end-3 c =
+part-copy-end-3 : tie.Need-part-copy-end-3 Inv-loop μ-loop
+part-copy-end-3 c =
     let z = c .before in
     let l = z .before .before .before .before .before .before in
     omega (arith, found (z .before .before) (z .size .given .1) .1, copied-length (l .loop .inv .0))
 
-add-copy-run-4 : tie.Need-add-copy-run-4 Inv-loop μ-loop
-add-copy-run-4 c =
+add-copy-4 : tie.Need-add-copy-4 Inv-loop μ-loop
+add-copy-4 c =
     let z = c .before .before in
     let r = found (z .before .before) (z .size .given .1) in
     omega (arith, r .0, r .2 .end .inside)
 
-sub-copy-run-4 : tie.Need-sub-copy-run-4 Inv-loop μ-loop
-sub-copy-run-4 c = omega arith
+sub-copy-4 : tie.Need-sub-copy-4 Inv-loop μ-loop
+sub-copy-4 c = omega arith
 
-part-copy-run-start-4 : tie.Need-part-copy-run-start-4 Inv-loop μ-loop
-part-copy-run-start-4 c = omega arith
+part-copy-start-4 : tie.Need-part-copy-start-4 Inv-loop μ-loop
+part-copy-start-4 c = omega arith
 
-part-copy-run-end-4 : tie.Need-part-copy-run-end-4 Inv-loop μ-loop
-part-copy-run-end-4 c =
+part-copy-end-4 : tie.Need-part-copy-end-4 Inv-loop μ-loop
+part-copy-end-4 c =
     let z = c .before .before in
     let r = found (z .before .before) (z .size .given .1) in
     omega (arith, r .0, r .2 .end .inside)
-
-copy-run-requires-2 : tie.Need-copy-run-requires-2 Inv-loop μ-loop
-copy-run-requires-2 c κs =
-    let z = c .before .before .before in
-    let l = z .before .before .before .before .before .before in
-    let r = found (z .before .before) (z .size .given .1) in
-    parts-even (l .loop .out) (l .before .before .before .args .input .now) (l .loop .written) (z .size .given .0 .1 .0)
-    (z .size .given .0 .0) (omega (arith, r .1, copied-length (l .loop .inv .0))) (omega (arith, r .0, r .2 .end .inside))
 
 sub-length : tie.Need-sub-length Inv-loop μ-loop
 sub-length c =
@@ -205,7 +188,7 @@ loop-again-2 c =
     let l = z .before .before .before .before .before .before in
     let r = found (z .before .before) (z .size .given .1) in (
       read-copied-on (λ (k : ℕ). omega (arith, l .before .before .shared-slice-known .given k)) _ (l .loop .inv .0) (r .0) (r .1) (r .2)
-          (c .before .before .copy-run2 .ensures),
+          (c .before .before .copy2 .ensures),
       chunk-known (r .2),
     )
 
@@ -213,7 +196,9 @@ same-length-2 : tie.Need-same-length-2 Inv-loop μ-loop
 same-length-2 c = copied-length (c .before .loop .inv .0)
 
 returns-2 : tie.Need-returns-2 Inv-loop μ-loop
-returns-2 c = copied-all (c .before .before .before .before .pre .1) (c .before .loop .inv .0) (c .loop-test .left)
+returns-2 c =
+    let w = c .before .before .before .before .pre in
+    copied-all (w .1) (c .before .loop .inv .0) (omega (arith, w .2, c .loop-test .left))
 
 pub copy-spec : {M : Type 1} → statement M
 copy-spec =
@@ -225,15 +210,15 @@ copy-spec =
     sub-again
     again-requires
     add-start
-    add-copy-run
-    sub-copy-run
-    part-copy-run-start
-    part-copy-run-end
-    add-copy-run-2
-    sub-copy-run-2
-    part-copy-run-start-2
-    part-copy-run-end-2
-    copy-run-requires
+    add-copy
+    sub-copy
+    part-copy-start
+    part-copy-end
+    add-copy-2
+    sub-copy-2
+    part-copy-start-2
+    part-copy-end-2
+    (λ c κs. search needs)
     add-at
     add-at-2
     add-written
@@ -244,15 +229,15 @@ copy-spec =
     same-length
     returns
     (λ c. search needs)
-    add-copy-run-3
-    sub-copy-run-3
-    part-copy-run-start-3
-    part-copy-run-end-3
-    add-copy-run-4
-    sub-copy-run-4
-    part-copy-run-start-4
-    part-copy-run-end-4
-    copy-run-requires-2
+    add-copy-3
+    sub-copy-3
+    part-copy-start-3
+    part-copy-end-3
+    add-copy-4
+    sub-copy-4
+    part-copy-start-4
+    part-copy-end-4
+    (λ c κs. search needs)
     sub-length
     add-at-3
     add-at-4

@@ -1,13 +1,14 @@
 -- `chunked::decode` meets its contract.
 use borrow.Author.Needs.{needs}
-use mathlib.Core.Path.{sym, _∙_, ap}
+use mathlib.Core.Path.{refl, sym, _∙_, ap}
 use Rattle.chunked.specs.Verdict.{verdict}
 use Rattle.chunked.proofs.Copies.{kept-more, kept-refused}
 use Rattle.chunked.proofs.decode.Statement.{statement}
 use Rattle.chunked.proofs.decode.Tie as tie
 
 copy-requires : tie.Need-copy-requires
-copy-requires c κs = (_, sym (c .before .before .before .before .decide .ensures) ∙ ap verdict (c .before .before .answer .given .1))
+copy-requires c κs =
+    (_, sym (c .before .before .before .before .decide .ensures) ∙ ap verdict (c .before .before .answer .given .1), refl)
 
 returns : tie.Need-returns
 returns c =

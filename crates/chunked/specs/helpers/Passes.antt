@@ -10,15 +10,15 @@ use Rattle.framing.specs.Answer.{whole}
 use Rattle.framing.specs.Grammar as G
 use Rattle.framing.specs.Grammar.{crlf, LINE_LIMIT}
 use Rattle.framing.specs.declared.LinePos.the-variants.{First, Size}
+use Rattle.framing.specs.declared.Whole.{Whole}
 use Rattle.framing.specs.declared.State.{State}
 use Rattle.framing.specs.declared.State.the-variants.{Line, Data}
 use Rattle.framing.specs.helpers.Machine.{lineStep, step, emit, start}
 use Rattle.framing.specs.helpers.Scan.{run, out, Quiet}
 use Rattle.framing.specs.Reading.{judge, decode}
+use Rattle.positions.specs.helpers.Ends.{cr-byte}
 use Rattle.chunked.specs.Verdict.{verdict}
 use Rattle.chunked.specs.declared.Answer.{Answer}
-use Rattle.chunked.specs.declared.Sized.{Sized}
-use Rattle.chunked.specs.declared.Sized.the-variants as Sized
 use Rattle.chunked.specs.declared.LastLine.{LastLine}
 use Rattle.chunked.specs.declared.Found.{Found}
 use Rattle.chunked.specs.declared.Found.the-variants as Found
@@ -41,12 +41,13 @@ pub record Copied (xs old new : List ℕ) (i o : ℕ) : Type 0 where
 -- the answer, where no data follows the t bytes so far
 pub record Last (room : ℕ) (xs : List ℕ) (t : ℕ) (a : Answer) : Type 0 where
   pub is : verdict a ≡ decode room xs
-  pub total : (n k : ℕ) → decode room xs ≡ whole n k → k ≡ t
+  pub total : (w : Whole) → decode room xs ≡ whole w → w .length ≡ t
+
+-- the answer is whole, with so many bytes of data
+abbrev pub WholeOf : ℕ → List ℕ → ℕ → Type 0
+WholeOf room xs len = (w : Whole) × (decode room xs ≡ whole w) × (w .length ≡ len)
 
 -- ## Chunk lines
-
-abbrev pub cr-byte : ℕ
-cr-byte = code "\r"
 
 -- the w bytes at i are a chunk line of the grammar, within its limit, that gives v, then z
 pub record LineAt (xs : List ℕ) (i w v : ℕ) (z : List ℕ) : Type 0 where
@@ -57,11 +58,10 @@ pub record LineAt (xs : List ℕ) (i w v : ℕ) (z : List ℕ) : Type 0 where
   pub short : length text ≤ LINE_LIMIT
 
 -- the digits of the line at i, which has t bytes of data before it, have the value v and end at j, before another byte
-abbrev pub SizeRead : ℕ → List ℕ → ℕ → ℕ → Sized → Type 0
-SizeRead room xs i t (Sized.Digits v j) =
+abbrev pub SizeRead : ℕ → List ℕ → ℕ → ℕ → ℕ → ℕ → Type 0
+SizeRead room xs i t v j =
     (i ≤ j) × (j < length xs) × At room xs (Line (Size v) (j - i) t) j × (hex? (getD xs j 0) ≡ false)
     × (run lineStep First (take (j - i) (drop i xs)) ≡ Size v)
-SizeRead room xs i t (Sized.Over a) = Last room xs t a
 
 -- the line at i, which has t bytes of data before it, gives the size v, above zero, with the data at j
 abbrev pub LineRead : ℕ → List ℕ → ℕ → ℕ → Found → Type 0

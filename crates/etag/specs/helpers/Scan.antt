@@ -1,5 +1,5 @@
 -- For the contracts of the reader's helpers.
-use Prim.Native.Nat.{ℕ, _+_, _≤_}
+use Prim.Native.Nat.{ℕ, _≤_}
 use mathlib.Core.Path.{_≡_}
 use mathlib.Core.Bool.{Bool}
 use mathlib.Core.List.{List, [], _∷_, _++_}
@@ -9,7 +9,6 @@ use Rattle.grammar.specs.helpers.Checks.{ahead}
 use Rattle.grammar.specs.helpers.Judge.{header}
 use Rattle.grammar.specs.helpers.Scans.{from}
 use Rattle.octets.specs.Quoted.{QUOTE, quoted-text}
-use Rattle.etag.specs.declared.Tag.{Tag}
 use Rattle.etag.specs.Grammar.{Name, opaque, opaque-tag, value, rules}
 
 module _ (s : List ℕ) (weak : Bool) where
@@ -25,7 +24,3 @@ module _ (s : List ℕ) (weak : Bool) where
   -- a quote stands before the place
   abbrev pub AfterQuote : ℕ → Type 0
   AfterQuote place = Reached (part opaque quoted-text ⨾ byte QUOTE) place × (place ≤ length s)
-
--- the opaque bytes stand within the text
-abbrev pub Within : List ℕ → Tag → Type 0
-Within s v = v .start + v .length ≤ length s

@@ -13,7 +13,7 @@ use Rattle.ffi_bodies.proofs.body_of.Statement.{statement}
 use Rattle.ffi_bodies.proofs.body_of.Tie as tie
 
 is-more : (a : Answer) → OneOf (1 ∷ []) (tagOf the-type a) → a ≡ More
-is-more (Whole n k) h = absurd (miss (1 ∷ []) 0 tt h)
+is-more (Whole w) h = absurd (miss (1 ∷ []) 0 tt h)
 is-more More h = refl
 is-more (Refused r) h = absurd (miss (1 ∷ []) 2 tt h)
 

@@ -7,13 +7,15 @@ use Prim.Native.Char.{code}
 use lib.Dec.{ltb, eqb}
 use Rattle.grammar.specs.Refusals.{LINE_TOO_LONG, TRAILER_TOO_LONG, BODY_TOO_LARGE}
 use Rattle.octets.specs.Bytes.{octet?, hex?, hex-value, token?, text?, escaped?, content?}
-use Rattle.framing.specs.Grammar.{LINE_LIMIT, TRAILER_LIMIT}
+use Rattle.framing.specs.Grammar.{LINE_LIMIT, TRAILER_LIMIT, limits}
+use Rattle.framing.specs.helpers.Scan.{Part, Machine, first}
 use Rattle.framing.specs.declared.ExtPos.{ExtPos}
 use Rattle.framing.specs.declared.ExtPos.the-variants as ExtPos
 use Rattle.framing.specs.declared.LinePos.{LinePos}
 use Rattle.framing.specs.declared.LinePos.the-variants.{First, Size, Ext}
 use Rattle.framing.specs.declared.TrailPos.{TrailPos}
 use Rattle.framing.specs.declared.TrailPos.the-variants.{Start, Field, Content, Feed, Wrong}
+use Rattle.framing.specs.declared.Whole.{Whole}
 use Rattle.framing.specs.declared.State.{State}
 use Rattle.framing.specs.declared.State.the-variants.{Line, LineFeed, Data, DataCr, DataLf, Trail, EndLf, Done, Dead}
 
@@ -51,22 +53,25 @@ extLive ExtPos.Quoted = true
 extLive ExtPos.Pair = true
 extLive ExtPos.Bad = false
 
+abbrev pub extensions : Part ExtPos
+extensions = record { begin = ExtPos.Between; next = extStep; ends = extEnds; alive = extLive }
+
 -- ## A chunk line, its CR left out
 unfoldable pub lineStep : LinePos → ℕ → LinePos
 lineStep First b = cond (hex? b) (Size (0 * 16 + hex-value b)) (Ext 0 ExtPos.Bad)
-lineStep (Size v) b = cond (hex? b) (Size (v * 16 + hex-value b)) (Ext v (extStep ExtPos.Between b))
-lineStep (Ext v e) b = Ext v (extStep e b)
+lineStep (Size v) b = cond (hex? b) (Size (v * 16 + hex-value b)) (Ext v (extensions .next (extensions .begin) b))
+lineStep (Ext v e) b = Ext v (extensions .next e b)
 
 unfoldable pub lineLive : LinePos → Bool
 lineLive First = true
 lineLive (Size v) = true
-lineLive (Ext v e) = extLive e
+lineLive (Ext v e) = extensions .alive e
 
 -- the size that a line gives which ends here
 unfoldable pub lineEnds : LinePos → Option ℕ
 lineEnds First = none
 lineEnds (Size v) = some v
-lineEnds (Ext v e) = cond (extEnds e) (some v) none
+lineEnds (Ext v e) = cond (extensions .ends e) (some v) none
 
 -- ## Trailer lines, the closing CR LF left out
 abbrev pub trailStep : TrailPos → ℕ → TrailPos
@@ -90,6 +95,9 @@ trailEnds Content = false
 trailEnds Feed = false
 trailEnds Wrong = false
 
+abbrev pub trailer : Part TrailPos
+trailer = record { begin = Start; next = trailStep; ends = trailEnds; alive = trailLive }
+
 -- ## The body
 -- Line p k t: in a chunk line at p, after k bytes of it, with t bytes of data in the chunks before.
 -- LineFeed v t: after the CR of a line that gives v. Data m t: in data, m bytes after the next one; t has the whole chunk.
@@ -100,7 +108,7 @@ leaveLine none t = Dead
 leaveLine (some v) t = LineFeed v t
 
 unfoldable pub enterChunk : ℕ → ℕ → State
-enterChunk zero t = Trail Start 0 t
+enterChunk zero t = Trail (trailer .begin) 0 t
 enterChunk (suc m) t = Data m (t + suc m)
 
 unfoldable pub step : State → ℕ → State
@@ -110,7 +118,7 @@ step (Data zero t) b = cond (octet? b) (DataCr t) Dead
 step (Data (suc m) t) b = cond (octet? b) (Data m t) Dead
 step (DataCr t) b = cond (eqb b (code "\r")) (DataLf t) Dead
 step (DataLf t) b = cond (eqb b (code "\n")) (Line First 0 t) Dead
-step (Trail p k t) b = cond (trailEnds p && eqb b (code "\r")) (EndLf t) (Trail (trailStep p b) (suc k) t)
+step (Trail p k t) b = cond (trailer .ends p && eqb b (code "\r")) (EndLf t) (Trail (trailer .next p b) (suc k) t)
 step (EndLf t) b = cond (eqb b (code "\n")) (Done t) Dead
 step (Done t) b = Dead
 step Dead b = Dead
@@ -133,13 +141,16 @@ live (LineFeed v t) = true
 live (Data m t) = true
 live (DataCr t) = true
 live (DataLf t) = true
-live (Trail p k t) = trailLive p
+live (Trail p k t) = trailer .alive p
 live (EndLf t) = true
 live (Done t) = true
 live Dead = false
 
--- the body that has ended, by the length of its data
-unfoldable pub done : State → Option ℕ
+-- what the end of a body knows of it: the length of its data
+pub record End : Type 0 where
+  pub length : ℕ
+
+unfoldable pub done : State → Option End
 done (Line p k t) = none
 done (LineFeed v t) = none
 done (Data m t) = none
@@ -147,27 +158,65 @@ done (DataCr t) = none
 done (DataLf t) = none
 done (Trail p k t) = none
 done (EndLf t) = none
-done (Done t) = some t
+done (Done t) = some (record { length = t })
 done Dead = none
 
--- ## Limits: the lowest that is broken by the byte which led to a state
+abbrev pub tell : ℕ → End → Whole
+tell n e = record { taken = n; length = e .length }
+
+-- ## Limits: whether the byte that led to a state broke one
+
+abbrev pub longLine : State → Bool
+longLine (Line p k t) = eqb k (suc LINE_LIMIT)
+longLine (LineFeed v t) = false
+longLine (Data m t) = false
+longLine (DataCr t) = false
+longLine (DataLf t) = false
+longLine (Trail p k t) = false
+longLine (EndLf t) = false
+longLine (Done t) = false
+longLine Dead = false
+
+abbrev pub longTrailer : State → Bool
+longTrailer (Line p k t) = false
+longTrailer (LineFeed v t) = false
+longTrailer (Data m t) = false
+longTrailer (DataCr t) = false
+longTrailer (DataLf t) = false
+longTrailer (Trail p k t) = eqb k (suc TRAILER_LIMIT)
+longTrailer (EndLf t) = false
+longTrailer (Done t) = false
+longTrailer Dead = false
 
 -- finished chunks and the size read so far pass the room
-unfoldable pub pastRoom : ℕ → LinePos → ℕ → Option ℕ
-pastRoom room First t = none
-pastRoom room (Size v) t = cond (ltb room (t + v)) (some BODY_TOO_LARGE) none
-pastRoom room (Ext v e) t = none
+unfoldable pub pastRoom : ℕ → LinePos → ℕ → Bool
+pastRoom room First t = false
+pastRoom room (Size v) t = ltb room (t + v)
+pastRoom room (Ext v e) t = false
 
+abbrev pub noRoom : ℕ → State → Bool
+noRoom room (Line p k t) = pastRoom room p t
+noRoom room (LineFeed v t) = false
+noRoom room (Data m t) = false
+noRoom room (DataCr t) = false
+noRoom room (DataLf t) = false
+noRoom room (Trail p k t) = false
+noRoom room (EndLf t) = false
+noRoom room (Done t) = false
+noRoom room Dead = false
+
+-- by number
+abbrev pub broke : ℕ → ℕ → State → Bool
+broke room n s =
+    cond (eqb n LINE_TOO_LONG) (longLine s)
+    (cond (eqb n TRAILER_TOO_LONG) (longTrailer s) (cond (eqb n BODY_TOO_LARGE) (noRoom room s) false))
+
+-- the one of the lowest rank
 unfoldable pub over : ℕ → State → Option ℕ
-over room (Line p k t) = cond (eqb k (suc LINE_LIMIT)) (some LINE_TOO_LONG) (pastRoom room p t)
-over room (LineFeed v t) = none
-over room (Data m t) = none
-over room (DataCr t) = none
-over room (DataLf t) = none
-over room (Trail p k t) = cond (eqb k (suc TRAILER_LIMIT)) (some TRAILER_TOO_LONG) none
-over room (EndLf t) = none
-over room (Done t) = none
-over room Dead = none
+over room s = first (λ n. broke room n s) limits
 
 abbrev pub start : State
 start = Line First 0 0
+
+abbrev pub machine : Machine End State
+machine = record { start = start; step = step; emit = emit; live = live; done = done; broke = broke }

@@ -21,7 +21,7 @@ returns c =
     let d = c .before .before .before in
     let x = d .before .before .before .args in
     let m = refused-alike (x .a .now) (d .read .result) (d .read .ensures .0) _ (c .before .outcome .given .1) in
-    sym (ap (λ v. compare same-meaning v (header meanings (x .b .now))) (m .0))
+    sym (ap (λ v. compare same-meaning v (header meanings (x .b .now))) m)
 
 pub equal-spec : {M : Type 1} → statement M
 equal-spec =

@@ -25,7 +25,7 @@ returns c =
     let d = c .before .before .before in
     let z = d .before .before .before in
     let n = refused-alike (z .args .b .now) (d .read .result) (d .read .ensures .0) _ (c .before .outcome .given .1) in
-    sym (ap₂ (compare same-meaning) (z .pre .1) (n .0))
+    sym (ap₂ (compare same-meaning) (z .pre .1) n)
 
 returns-2 : tie.Need-returns-2
 returns-2 c =

@@ -22,7 +22,7 @@ returns-3 : tie.Need-returns-3
 returns-3 c =
     let p = c .before .before .copy in
     let x = c .before .before .before .before .before .before .before .before .args in
-    puts-part (x .out .now) (x .at) (x .src .now) (p .last .1 .0) (x .at + length (x .src .now)) (omega arith) refl (p .ensures)
+    puts-part (x .out .now) (x .at) (x .src .now) (p .last .0) (x .at + length (x .src .now)) (omega arith) refl (p .ensures)
 
 pub put-bytes-spec : {M : Type 1} → statement M
 put-bytes-spec =

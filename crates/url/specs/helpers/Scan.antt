@@ -1,28 +1,23 @@
--- For the contracts of the reader's and the comparison's helpers.
+-- For the contracts of the reader's helpers.
 use Prim.Native.Nat.{ℕ, _+_, _-_, _≤_, _<_}
 use Prim.Native.Char.{code}
 use mathlib.Core.Path.{_≡_}
 use mathlib.Core.Bool.{Bool, true, false}
 use mathlib.Core.List.{List, [], _∷_, _++_}
 use mathlib.Core.Option.{Option, none, some}
-use lib.ListN.{length, getD, drop}
+use lib.ListN.{length, getD}
 use Rattle.grammar.specs.Grammar.{Part, _⨾_}
 use Rattle.grammar.specs.helpers.Checks.{ahead}
 use Rattle.grammar.specs.helpers.Judge.{header}
 use Rattle.grammar.specs.helpers.Scans.{slice, from}
 use Rattle.octets.specs.Bytes.{hex?}
 use Rattle.octets.specs.Numbers.{above?}
-use Rattle.octets.specs.declared.Refusal.{Refusal}
-use Rattle.url.specs.declared.Reading.{Reading}
-use Rattle.url.specs.declared.Reading.the-variants.{Read, Refused}
 use Rattle.url.specs.declared.Place.{Place}
-use Rattle.url.specs.declared.Unit.{Unit}
 use Rattle.url.specs.declared.Url.{Url}
 use Rattle.url.specs.declared.Ending.{Ending}
 use Rattle.url.specs.declared.Ending.the-variants.{Ends, Breaks}
 use Rattle.url.specs.Grammar.{Name, host, port, path, port-part, path-part, query-part, port-text, default-port}
 use Rattle.url.specs.Grammar.{is-port, largest-port, rules}
-use Rattle.url.specs.Meaning.{resolved}
 
 -- n hex digits stand at i; where they are fewer than two, no further one
 pub record Hexes (s : List ℕ) (i n : ℕ) : Type 0 where
@@ -89,16 +84,3 @@ pub record BeforeQuery (s : List ℕ) (e n i f : ℕ) : Type 0 where
   pub some : i < f
   pub within : f ≤ length s
   pub reads : header rules s ≡ from rules s (ahead (heads s e (before .digits) i ++ path-at s i f ∷ []) query-part) f
-
--- ## Comparing
-
--- one byte of a text as it is compared, and what is left behind it
-pub record Resolves (s : List ℕ) (i : ℕ) (u : Unit) : Type 0 where
-  pub on : i < u .next
-  pub within : u .next ≤ length s
-  pub is : resolved (drop i s) ≡ u .byte ∷ resolved (drop (u .next) s)
-
--- the refusal of a reading that was refused; no answer has the one of a reading that was not
-abbrev pub refusal-of : Reading → Refusal
-refusal-of (Read u) = record { number = 0; place = 0 }
-refusal-of (Refused r) = r

@@ -1,0 +1,3 @@
+pub mod Within
+pub mod Matching
+pub mod Demands

@@ -1,0 +1,99 @@
+-- The first of some limits that passes a test, by their ranks.
+use mathlib.Core.Path.{_≡_, refl, sym, _∙_, ap}
+use mathlib.Core.Bool.{Bool, true, false, cond}
+use mathlib.Core.List.{List, [], _∷_}
+use mathlib.Core.Logic.{_⊎_, inl, inr}
+use mathlib.Core.Option.{Option, none, some}
+use Prim.Native.Nat.{ℕ, zero, suc, _<_, _≤_}
+use native.Mathlib.Omega.{arith}
+use lib.Dec.{eqb}
+use lib.ListN.{length}
+use borrow.Author.Tests.{eqb-true, eq-eqb}
+use Rattle.framing.specs.Demand.{rank, Among}
+use Rattle.framing.specs.helpers.Scan.{first}
+use Rattle.framing.proofs.Cases.{false-true}
+
+clash : {A B : Type 0} {n : B} → none ≡ some n → A
+clash e = let z : _≡_ {A = ℕ} 0 1 = cc in absurd (omega arith)
+
+same-some : (n m : ℕ) → some n ≡ some m → n ≡ m
+same-some n m e = cc
+
+-- a rank below all says which limit it is
+pub same-rank : (ls : List ℕ) (n m : ℕ) → Among ls n → rank ls m ≡ rank ls n → m ≡ n
+same-rank [] n m a e = absurd (omega arith)
+same-rank (l ∷ ls) n m a e = go (λ b f. same-rank ls n m b f) (eqb m l) (eqb n l) refl refl
+  where
+    go : (Among ls n → rank ls m ≡ rank ls n → m ≡ n) → (x y : Bool) → eqb m l ≡ x → eqb n l ≡ y → m ≡ n
+    go on true true p q = eqb-true m l p ∙ sym (eqb-true n l q)
+    go on true false p q = absurd (omega (arith, (rw (p, q) at e)))
+    go on false true p q = absurd (omega (arith, (rw (p, q) at e)))
+    go on false false p q = on (omega (arith, (rw q at a))) (omega (arith, (rw (p, q) at e)))
+
+module _ (test : ℕ → Bool) where
+  -- what is found is a limit, and passes
+  pub first-passes : (ls : List ℕ) (n : ℕ) → first test ls ≡ some n → Among ls n × (test n ≡ true)
+  first-passes [] n e = clash e
+  first-passes (l ∷ ls) n e = go (λ f. first-passes ls n f) (test l) refl
+    where
+      behind : (y : Bool) → Among ls n → cond y 0 (suc (rank ls n)) < suc (length ls)
+      behind true a = omega arith
+      behind false a = omega (arith, a)
+
+      go : (first test ls ≡ some n → Among ls n × (test n ≡ true)) → (x : Bool) → test l ≡ x → Among (l ∷ ls) n × (test n ≡ true)
+      go on true p = let z : l ≡ n = same-some l n (rw p at e) in (rw (eq-eqb n l (sym z)) (omega arith), ap test (sym z) ∙ p)
+      go on false p = let w : Among ls n × (test n ≡ true) = on (rw p at e) in (behind (eqb n l) (w .0), w .1)
+
+  -- where a limit passes, that one is found or one of a lower rank
+  pub first-found : (ls : List ℕ) (n : ℕ) → Among ls n → test n ≡ true → (m : ℕ) × (first test ls ≡ some m) × (rank ls m ≤ rank ls n)
+  first-found [] n a h = absurd (omega arith)
+  first-found (l ∷ ls) n a h = go (λ b. first-found ls n b h) (test l) (eqb n l) refl refl
+    where
+      below : (m : ℕ) (y : Bool) → rank ls m ≤ rank ls n → cond y 0 (suc (rank ls m)) ≤ suc (rank ls n)
+      below m true k = omega arith
+      below m false k = omega (arith, k)
+
+      past : test l ≡ false → eqb n l ≡ false → (m : ℕ) × (first test ls ≡ some m) × (rank ls m ≤ rank ls n)
+          → (m : ℕ) × (first test (l ∷ ls) ≡ some m) × (rank (l ∷ ls) m ≤ rank (l ∷ ls) n)
+      past p q w = (w .0, rw p (w .1), rw q (below (w .0) (eqb (w .0) l) (w .2)))
+
+      go : (Among ls n → (m : ℕ) × (first test ls ≡ some m) × (rank ls m ≤ rank ls n)) → (x y : Bool) → test l ≡ x → eqb n l ≡ y
+          → (m : ℕ) × (first test (l ∷ ls) ≡ some m) × (rank (l ∷ ls) m ≤ rank (l ∷ ls) n)
+      go on true y p q = (l, rw p refl, rw (eq-eqb l l refl) (omega arith))
+      go on false true p q = false-true (sym p ∙ ap test (sym (eqb-true n l q)) ∙ h)
+      go on false false p q = past p q (on (omega (arith, (rw q at a))))
+
+  -- where none is found, none passes
+  pub first-none : (ls : List ℕ) (n : ℕ) → first test ls ≡ none → Among ls n → test n ≡ false
+  first-none ls n e a = go (test n) refl
+    where
+      go : (x : Bool) → test n ≡ x → x ≡ false
+      go true p = let w = first-found ls n a p in clash (sym e ∙ w .1)
+      go false p = refl
+
+  -- and where none passes, none is found
+  pub none-first : (ls : List ℕ) → ((n : ℕ) → test n ≡ false) → first test ls ≡ none
+  none-first [] f = refl
+  none-first (l ∷ ls) f = rw (f l) (none-first ls f)
+
+-- where the limits but one give the same under two tests, and that one passes the first where it passes the second, the first test finds
+-- that one, or both find the same
+pub first-same : (test test′ : ℕ → Bool) (one : ℕ) → ((n : ℕ) → (n ≡ one → ⊥) → test′ n ≡ test n) → (test′ one ≡ true → test one ≡ true)
+    → (ls : List ℕ) → (first test ls ≡ some one) ⊎ (first test′ ls ≡ first test ls)
+first-same test test′ one same lifts [] = inr refl
+first-same test test′ one same lifts (l ∷ ls) =
+    go (first-same test test′ one same lifts ls) (eqb l one) (test l) (test′ l) refl refl refl
+  where
+    differs : eqb l one ≡ false → l ≡ one → ⊥
+    differs e z = false-true (sym e ∙ eq-eqb l one z)
+
+    go : (first test ls ≡ some one) ⊎ (first test′ ls ≡ first test ls) → (x y z : Bool) → eqb l one ≡ x → test l ≡ y → test′ l ≡ z
+        → (cond y (some l) (first test ls) ≡ some one) ⊎ (cond z (some l) (first test′ ls) ≡ cond y (some l) (first test ls))
+    go on true true z e p q = inl (ap some (eqb-true l one e))
+    go on true false true e p q =
+        false-true (sym p ∙ ap test (eqb-true l one e) ∙ lifts (ap test′ (sym (eqb-true l one e)) ∙ q))
+    go on true false false e p q = on
+    go on false true true e p q = inr refl
+    go on false true false e p q = false-true (sym q ∙ same l (differs e) ∙ p)
+    go on false false true e p q = false-true (sym (same l (differs e) ∙ p) ∙ q)
+    go on false false false e p q = on

@@ -1,0 +1,5 @@
+pub mod Tables
+pub mod Places
+pub mod Effect
+pub mod Demands
+pub mod CharsetExamples

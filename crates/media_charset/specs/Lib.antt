@@ -1,0 +1,3 @@
+pub mod Charset
+pub mod Places
+pub mod Reading

@@ -1,0 +1,4 @@
+pub mod Says
+pub mod Pieces
+pub mod Printing
+pub mod Demands

@@ -1,0 +1,8 @@
+pub mod Tables
+pub mod Resolved
+pub mod Escapes
+pub mod Meaning
+pub mod Pages
+pub mod Equality
+pub mod Demands
+pub mod Examples

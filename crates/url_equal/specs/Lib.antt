@@ -1,0 +1,4 @@
+pub mod Meaning
+pub mod Equality
+pub mod Places
+pub mod helpers
