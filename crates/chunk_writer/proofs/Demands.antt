@@ -64,7 +64,7 @@ writes-back r body n m p small l =
     let told : Whole = record { taken = length (frame body n); length = length body } in
     let w : (d : List ℕ) × BeginsWhole (chunked limits) r (frame body n) told d
     = Framing.whole r (frame body n) told .0 (reads-back r body n m p small l) in
-    let all : take (w .1 .bytes) (frame body n) ≡ frame body n
+    let all : take (w .1 .count) (frame body n) ≡ frame body n
     = ap (λ (k : ℕ). take k (frame body n)) (sym (Framing.taken r (frame body n) (w .1))) ∙ take-length (frame body n) in
     Framing.demands .writes r (frame body n) told (w .0) (w .1)
     ∙ Framing.one-reading (frame body n) (w .0) body (subst (λ (z : List ℕ). Body z (w .0)) all (w .1 .body)) (frames body n m p)

@@ -19,7 +19,7 @@ use Rattle.framing.specs.Grammar as G
 use Rattle.framing.specs.Grammar.{Many, valueFrom}
 use Rattle.framing.specs.helpers.Scan.{Verdict, ended, stop, note, scan, answer}
 use Rattle.framing.specs.helpers.Machine.{End, lineStep, lineEnds, leaveLine, trailer, step, tell}
-use Rattle.framing.specs.Reading.{judge, found, decode}
+use Rattle.framing.specs.Reading.{judge, decode}
 use Rattle.framing.proofs.Turns as Turns
 use Rattle.grammar.specs.Text.{joined}
 use Rattle.chunk_writer.specs.Writing.{chunk, end, framed}
@@ -181,7 +181,7 @@ module _ (r : ℕ) where
   -- a frame of any pieces is read whole
   pub reads-framed : (pieces : List (List ℕ)) → Pieces pieces → length (joined pieces) < 2 ^ 64 → length (joined pieces) ≤ r
       → decode r (framed pieces) ≡ whole (record { taken = length (framed pieces); length = length (joined pieces) })
-  unfolding decode found answer
+  unfolding judge decode answer
   reads-framed pieces ps small l =
       let some : 0 < length (framed pieces) = framed-some-byte pieces in
       let e : 0 + length (framed pieces) ≡ suc (length (framed pieces) - 1) = omega arith in

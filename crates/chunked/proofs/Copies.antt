@@ -18,9 +18,8 @@ use Rattle.framing.specs.declared.LinePos.the-variants.{First}
 use Rattle.framing.specs.declared.State.{State}
 use Rattle.framing.specs.declared.State.the-variants.{Line, Data, DataCr}
 use Rattle.framing.specs.declared.Whole.{Whole}
-use Rattle.framing.specs.Demand.{nothing}
 use Rattle.framing.specs.helpers.Machine.{End, step, emit, start, tell}
-use Rattle.framing.specs.helpers.Scan.{Verdict, ended, Found, stop, out, written}
+use Rattle.framing.specs.helpers.Scan.{Verdict, ended, Found, stop, nothing, out, written}
 use Rattle.framing.specs.Reading.{judge, found, decode, decoded, decode-output}
 use Rattle.framing.proofs.Scanning.{out-append, Stops, stop-stops}
 use Rattle.framing.proofs.Machines.{whole-of}
@@ -112,20 +111,20 @@ module _ (room : ℕ) (xs : List ℕ) {w : Whole} (e : decode room xs ≡ Framin
 
   -- the byte that ended the body
   last-byte : (i : ℕ) × (end : End) × (found room xs ≡ stop i (ended end)) × (w ≡ tell (suc i) end)
-  unfolding decode
+  unfolding found decode
   last-byte = whole-of tell (found room xs) w e
 
   taken : w .taken ≡ suc (last-byte .0)
   taken = ap (λ (z : Whole). z .taken) (last-byte .3)
 
   whole-data : decoded room xs ≡ dataTo xs (w .taken)
-  unfolding decoded written
+  unfolding found decoded written
   whole-data =
       ap (λ (z : Found (Verdict End)). written nothing (out step emit start) z xs) (last-byte .2)
       ∙ ap (λ (n : ℕ). dataTo xs n) (sym taken)
 
   reach : {s : State} {i : ℕ} → At room xs s i → i ≤ w .taken
-  unfolding found
+  unfolding judge found
   reach {s} {i} at = go (last-byte .0) (last-byte .1) taken
       (stop-stops step (judge room) start xs (begins room) (last-byte .0) (ended (last-byte .1)) (last-byte .2)) (decLe (suc (last-byte .0)) i)
     where

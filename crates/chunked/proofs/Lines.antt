@@ -14,14 +14,11 @@ use Rattle.octets.proofs.Spans.{by-range}
 use Rattle.framing.specs.Answer as Framing
 use Rattle.framing.specs.Grammar.{LINE_LIMIT, TRAILER_LIMIT}
 use Rattle.framing.specs.declared.ExtPos.{ExtPos}
-use Rattle.framing.specs.declared.ExtPos.the-variants as ExtPos
 use Rattle.framing.specs.declared.LinePos.{LinePos}
 use Rattle.framing.specs.declared.LinePos.the-variants.{First, Size, Ext}
 use Rattle.framing.specs.declared.TrailPos.{TrailPos}
-use Rattle.framing.specs.declared.TrailPos.the-variants as TrailPos
 use Rattle.framing.specs.declared.State.the-variants.{Line, LineFeed, Data, Trail, EndLf}
-use Rattle.framing.specs.helpers.Machine.{extStep, extEnds, extLive, lineStep, lineEnds, trailStep, trailEnds, trailLive}
-use Rattle.framing.specs.helpers.Machine.{step, live, tell}
+use Rattle.framing.specs.helpers.Machine.{extensions, lineStep, lineEnds, trailer, step, live, tell}
 use Rattle.framing.specs.Reading.{decode}
 use Rattle.framing.proofs.Cases.{false-true}
 use Rattle.framing.proofs.Scanning.{run-append}
@@ -94,8 +91,8 @@ module _ (room : ℕ) (xs : List ℕ) (i t : ℕ) where
     pub starts : i ≤ k
     pub pos : LinePos
     pub at : At room xs (Line pos (k - i) t) k
-    pub steps : k < length xs → lineStep pos (getD xs k 0) ≡ Ext v (extStep e (getD xs k 0))
-    pub ends : lineEnds pos ≡ cond (extEnds e) (some v) none
+    pub steps : k < length xs → lineStep pos (getD xs k 0) ≡ Ext v (extensions .next e (getD xs k 0))
+    pub ends : lineEnds pos ≡ cond (extensions .ends e) (some v) none
     pub read : lineRun First (take (k - i) (drop i xs)) ≡ pos
 
 module _ {room : ℕ} {xs : List ℕ} {i t : ℕ} where
@@ -170,7 +167,7 @@ module _ {room : ℕ} {xs : List ℕ} {i t : ℕ} where
             }
 
   -- ## Behind the digits
-  pub ext-start : {v j : ℕ} → SizeRead room xs i t v j → InExt room xs i t v ExtPos.Between j
+  pub ext-start : {v j : ℕ} → SizeRead room xs i t v j → InExt room xs i t v (extensions .begin) j
   ext-start {v} {j} h = record {
     starts = h .0;
     pos = Size v;
@@ -184,14 +181,14 @@ module _ {room : ℕ} {xs : List ℕ} {i t : ℕ} where
     abbrev c : ℕ
     c = getD xs k 0
 
-    pub ext-ended : c ≡ 13 → extEnds e ≡ true → At room xs (LineFeed v t) (k + 1)
+    pub ext-ended : c ≡ 13 → extensions .ends e ≡ true → At room xs (LineFeed v t) (k + 1)
     ext-ended z f =
         at-next (h .at) lt
         (Turns.line-cr c (h .pos) (k - i) t z ∙ Turns.leave-some v t (lineEnds (h .pos))
         (h .ends ∙ ap (λ (y : Bool). cond y (some v) none) f))
         (Turns.quiet-feed room v t)
 
-    pub ext-line : c ≡ 13 → extEnds e ≡ true → LineAt xs i (k + 1 - i) v (13 ∷ [])
+    pub ext-line : c ≡ 13 → extensions .ends e ≡ true → LineAt xs i (k + 1 - i) v (13 ∷ [])
     ext-line z f =
         let s : k - i ≤ LINE_LIMIT = line-short (h .at) in
         record {
@@ -202,7 +199,7 @@ module _ {room : ℕ} {xs : List ℕ} {i t : ℕ} where
           short = omega (arith, length-take-le (k - i) (drop i xs) (omega (arith, length-drop i xs)));
         }
 
-    pub ext-unended : c ≡ 13 → extEnds e ≡ false → Framing.refused 1 k ≡ decode room xs
+    pub ext-unended : c ≡ 13 → extensions .ends e ≡ false → Framing.refused 1 k ≡ decode room xs
     ext-unended z f =
         at-refuse (h .at) lt
         (Turns.line-cr c (h .pos) (k - i) t z ∙ Turns.leave-none t (lineEnds (h .pos))
@@ -210,23 +207,23 @@ module _ {room : ℕ} {xs : List ℕ} {i t : ℕ} where
         (Turns.no-more room)
 
     module _ (other : c ≡ 13 → ⊥) where
-      ext-step : step (Line (h .pos) (k - i) t) c ≡ Line (Ext v (extStep e c)) (suc (k - i)) t
+      ext-step : step (Line (h .pos) (k - i) t) c ≡ Line (Ext v (extensions .next e c)) (suc (k - i)) t
       ext-step = Turns.line-step c (h .pos) (k - i) t other ∙ ap (λ (p : LinePos). Line p (suc (k - i)) t) (h .steps lt)
 
-      pub ext-wrong : extLive (extStep e c) ≡ false → Framing.refused 1 k ≡ decode room xs
-      ext-wrong f = at-refuse (h .at) lt ext-step (Turns.ext-dead room v (extStep e c) (suc (k - i)) t f)
+      pub ext-wrong : extensions .alive (extensions .next e c) ≡ false → Framing.refused 1 k ≡ decode room xs
+      ext-wrong f = at-refuse (h .at) lt ext-step (Turns.ext-dead room v (extensions .next e c) (suc (k - i)) t f)
 
-      pub ext-long : extLive (extStep e c) ≡ true → k - i ≡ LINE_LIMIT → Framing.refused 5 k ≡ decode room xs
-      ext-long f z = at-refuse (h .at) lt ext-step (Turns.ext-five room v (extStep e c) (suc (k - i)) t f (omega arith))
+      pub ext-long : extensions .alive (extensions .next e c) ≡ true → k - i ≡ LINE_LIMIT → Framing.refused 5 k ≡ decode room xs
+      ext-long f z = at-refuse (h .at) lt ext-step (Turns.ext-five room v (extensions .next e c) (suc (k - i)) t f (omega arith))
 
-      pub ext-on : extLive (extStep e c) ≡ true → (k - i ≡ LINE_LIMIT → ⊥) → InExt room xs i t v (extStep e c) (k + 1)
+      pub ext-on : extensions .alive (extensions .next e c) ≡ true → (k - i ≡ LINE_LIMIT → ⊥) → InExt room xs i t v (extensions .next e c) (k + 1)
       ext-on f short =
           let z : suc (k - i) ≡ k + 1 - i = omega (arith, h .starts) in
           record {
             starts = omega (arith, h .starts);
-            pos = Ext v (extStep e c);
-            at = subst (λ (n : ℕ). At room xs (Line (Ext v (extStep e c)) n t) (k + 1)) z
-                (at-next (h .at) lt ext-step (Turns.ext-quiet room v (extStep e c) (suc (k - i)) t f (λ y. short (omega arith))));
+            pos = Ext v (extensions .next e c);
+            at = subst (λ (n : ℕ). At room xs (Line (Ext v (extensions .next e c)) n t) (k + 1)) z
+                (at-next (h .at) lt ext-step (Turns.ext-quiet room v (extensions .next e c) (suc (k - i)) t f (λ y. short (omega arith))));
             steps = λ _. unfold lineStep in refl;
             ends = unfold lineEnds in refl;
             read = read-on xs i k (h .starts) lt (h .read) (h .steps lt);
@@ -238,7 +235,7 @@ module _ {room : ℕ} {xs : List ℕ} where
     pub feed-refused : (getD xs k 0 ≡ 10 → ⊥) → Framing.refused 1 k ≡ decode room xs
     feed-refused h = at-refuse at lt (Turns.feed-other (getD xs k 0) v t h) (Turns.no-more room)
 
-    pub feed-last : getD xs k 0 ≡ 10 → v ≡ 0 → At room xs (Trail TrailPos.Start 0 t) (k + 1)
+    pub feed-last : getD xs k 0 ≡ 10 → v ≡ 0 → At room xs (Trail (trailer .begin) 0 t) (k + 1)
     feed-last h z = at-next at lt (Turns.feed-lf (getD xs k 0) v t h ∙ Turns.enter-last v t z) (Turns.quiet-trailer room t)
 
     pub feed-data : getD xs k 0 ≡ 10 → 0 < v → At room xs (Data (v - 1) (t + v)) (k + 1)
@@ -256,29 +253,29 @@ module _ {room : ℕ} {xs : List ℕ} where
     }
 
   -- ## The trailer
-  pub trail-start : {i t : ℕ} → At room xs (Trail TrailPos.Start 0 t) i → At room xs (Trail TrailPos.Start (i - i) t) i
+  pub trail-start : {i t : ℕ} → At room xs (Trail (trailer .begin) 0 t) i → At room xs (Trail (trailer .begin) (i - i) t) i
   trail-start {i} {t} at =
       let z : 0 ≡ i - i = omega arith in
-      subst (λ (n : ℕ). At room xs (Trail TrailPos.Start n t) i) z at
+      subst (λ (n : ℕ). At room xs (Trail (trailer .begin) n t) i) z at
 
   module _ {t : ℕ} {p : TrailPos} {k : ℕ} (i : ℕ) (starts : i ≤ k) (at : At room xs (Trail p (k - i) t) k) (lt : k < length xs) where
     abbrev q : TrailPos
-    q = trailStep p (getD xs k 0)
+    q = trailer .next p (getD xs k 0)
 
-    pub trail-closed : (trailEnds p && eqb (getD xs k 0) 13) ≡ true → At room xs (EndLf t) (k + 1)
+    pub trail-closed : (trailer .ends p && eqb (getD xs k 0) 13) ≡ true → At room xs (EndLf t) (k + 1)
     trail-closed h = at-next at lt (Turns.trail-close (getD xs k 0) p (k - i) t h) (Turns.quiet-end room t)
 
-    module _ (unclosed : (trailEnds p && eqb (getD xs k 0) 13) ≡ false) where
+    module _ (unclosed : (trailer .ends p && eqb (getD xs k 0) 13) ≡ false) where
       trail-step : step (Trail p (k - i) t) (getD xs k 0) ≡ Trail q (suc (k - i)) t
       trail-step = Turns.trail-step (getD xs k 0) p (k - i) t unclosed
 
-      pub trail-wrong : trailLive q ≡ false → Framing.refused 1 k ≡ decode room xs
+      pub trail-wrong : trailer .alive q ≡ false → Framing.refused 1 k ≡ decode room xs
       trail-wrong f = at-refuse at lt trail-step (Turns.trail-dead room q (suc (k - i)) t f)
 
-      pub trail-long : trailLive q ≡ true → k - i ≡ TRAILER_LIMIT → Framing.refused 6 k ≡ decode room xs
+      pub trail-long : trailer .alive q ≡ true → k - i ≡ TRAILER_LIMIT → Framing.refused 6 k ≡ decode room xs
       trail-long f z = at-refuse at lt trail-step (Turns.trail-six room q (suc (k - i)) t f (omega arith))
 
-      pub trail-on : trailLive q ≡ true → (k - i ≡ TRAILER_LIMIT → ⊥) → At room xs (Trail q (k + 1 - i) t) (k + 1)
+      pub trail-on : trailer .alive q ≡ true → (k - i ≡ TRAILER_LIMIT → ⊥) → At room xs (Trail q (k + 1 - i) t) (k + 1)
       trail-on f short =
           let z : suc (k - i) ≡ k + 1 - i = omega arith in
           subst (λ (n : ℕ). At room xs (Trail q n t) (k + 1)) z

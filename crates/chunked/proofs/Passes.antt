@@ -13,9 +13,9 @@ use Rattle.framing.specs.declared.State.{State}
 use Rattle.framing.specs.declared.LinePos.{LinePos}
 use Rattle.framing.specs.declared.LinePos.the-variants.{First}
 use Rattle.framing.specs.declared.State.the-variants.{Line, LineFeed, Data}
-use Rattle.framing.specs.helpers.Machine.{End, step, live, done, over, lineLive, pastRoom, start, tell}
+use Rattle.framing.specs.helpers.Machine.{End, step, live, done, lineLive, pastRoom, start, tell}
 use Rattle.framing.specs.helpers.Scan.{Verdict, ended, refusal, stop, run, scan, answer, Quiet}
-use Rattle.framing.specs.Reading.{judge, found, decode}
+use Rattle.framing.specs.Reading.{judge, decode}
 use Rattle.framing.proofs.Scanning.{run-append, quiet-on, quiet-going, stops-stop}
 use Rattle.framing.specs.Grammar.{limits}
 use Rattle.framing.proofs.Judging.{quiet-fits, quiet-line}
@@ -27,7 +27,7 @@ use Rattle.chunked.specs.helpers.Passes.{At, Last}
 use Rattle.framing.proofs.Rooms.{sizeOf, Fits, ShortLine}
 
 pub begins : (room : ℕ) → judge room start ≡ none
-unfolding judge live lineLive done over pastRoom
+unfolding judge live lineLive done pastRoom
 begins room = refl
 
 module _ {room : ℕ} {xs : List ℕ} where
@@ -45,15 +45,15 @@ module _ {room : ℕ} {xs : List ℕ} where
         ap (λ (z : List ℕ). judge room (run step start z)) (take-take k i xs h) ∙ at .quiet k h
 
     at-fits : Fits room s
-    unfolding judge over
+    unfolding judge
     at-fits = subst (Fits room) (at .reached) (quiet-fits limits room (omega arith) (take i xs) before)
 
     at-short : ShortLine s
-    unfolding judge over
+    unfolding judge
     at-short = subst ShortLine (at .reached) (quiet-line limits room (omega arith) (take i xs) before)
 
     pub at-more : length xs ≤ i → Framing.more ≡ decode room xs
-    unfolding decode found answer
+    unfolding judge decode answer
     at-more h =
         let e : i ≡ length xs = omega (arith, at .within, h) in
         sym (ap (answer tell) (quiet-going step (judge room) start xs (begins room) (subst (Quiet step (judge room) start xs) e (at .quiet))))
@@ -78,11 +78,11 @@ module _ {room : ℕ} {xs : List ℕ} where
             (record { inside = lt; quiet = at .quiet; verdict = ap (judge room) (onward ∙ e) ∙ h })
 
         pub at-refuse : {m : ℕ} → judge room n ≡ some (refusal m) → Framing.refused m i ≡ decode room xs
-        unfolding decode found answer
+        unfolding judge decode answer
         at-refuse {m} h = sym (ap (answer tell) (at-stop (refusal m) h))
 
         pub at-end : {e : End} → judge room n ≡ some (ended e) → Framing.whole (tell (i + 1) e) ≡ decode room xs
-        unfolding decode found answer
+        unfolding judge decode answer
         at-end {e} h = ap (λ (k : ℕ). Framing.whole (tell k e)) (add-one i) ∙ sym (ap (answer tell) (at-stop (ended e) h))
 
   pub line-fits : {p : LinePos} {k t i : ℕ} → At room xs (Line p k t) i → t + sizeOf p ≤ room

@@ -2,11 +2,12 @@
 ghost use mathlib.Core.Path.{_≡_};
 ghost use mathlib.Core.Bool.{true};
 ghost use mathlib.Core.List.{[], _∷_};
-ghost use Prim.Native.Nat.{ℕ, _+_, _-_, _<_, _≤_};
+ghost use Prim.Native.Nat.{_+_, _-_, _<_, _≤_};
 ghost use lib.ListN.{length};
 ghost use Rattle.framing.specs.Answer.{refused};
 ghost use Rattle.framing.specs.declared.LinePos.the-variants.{First};
 ghost use Rattle.framing.specs.declared.State.the-variants.{Line, LineFeed, Trail, EndLf};
+ghost use Rattle.framing.specs.helpers.Machine.{trailer};
 ghost use Rattle.framing.specs.Reading.{decode-output, decode as decodeIn};
 ghost use Rattle.chunked.specs.Verdict.{verdict};
 ghost use Rattle.positions.specs.helpers.Ends.{cr-byte};
@@ -280,10 +281,10 @@ fn line_feed(input: &[u8], line: usize, at: usize, size: usize, total: usize, ro
 
 // Reads the trailer at `start`, behind the last chunk's line, and the closing CR LF.
 fn trailer(input: &[u8], start: usize, total: usize, room: usize) -> Answer
-    requires { ⌜ At room (now input) (Trail TrailPos.Start 0 total) start ⌝ }
+    requires { ⌜ At room (now input) (Trail (trailer .begin) 0 total) start ⌝ }
     ensures { λ r. ⌜ Last room (now (input .entry)) total r ⌝ }
 {
-    let mut pos = TrailPos::Start;
+    let mut pos = TrailPos::LineStart;
     let mut at = start;
     while at < input.len() {
         let byte = input[at];

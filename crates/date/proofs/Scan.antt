@@ -8,10 +8,10 @@ use mathlib.Core.List.{List, [], _∷_, _++_}
 use mathlib.Core.Option.{Option, none, some}
 use lib.Dec.{T, ltb, eqb}
 use lib.ListN.{length, getD, drop, length-drop}
-use Rattle.grammar.specs.Grammar.{Part, Grammar, void, empty, byte, _⨾_, _∣_, part, rest, just, lit, bytes?, T-left, T-right}
+use Rattle.grammar.specs.Grammar.{Part, Grammar, void, empty, byte, _⨾_, _∣_, part, just, lit, bytes?, T-left, T-right}
 use Rattle.grammar.specs.helpers.Derivative.{live, nullable, deriv, ends, then, seq, alt}
 use Rattle.grammar.specs.Reading.{refused}
-use Rattle.grammar.specs.helpers.Judge.{held, header, finished, unless-fault}
+use Rattle.grammar.specs.helpers.Judge.{held, header, finished}
 use Rattle.grammar.specs.helpers.Checks.{ahead}
 use Rattle.grammar.specs.helpers.Scans.{slice, from}
 use Rattle.grammar.proofs.Loop.{header-short}
@@ -23,7 +23,7 @@ use Rattle.calendar.specs.declared.Fields.{Fields}
 use Rattle.date.specs.declared.Places.{Places}
 use Rattle.date.specs.declared.Tail.{Tail}
 use Rattle.date.specs.declared.Tail.the-variants.{Month, Stops}
-use Rattle.date.specs.Grammar.{Name, weekday, month, day, year, short-year, hour, minute, second, months, rfc1123, rfc850, asctime, forms, fault-of, value-of, rules}
+use Rattle.date.specs.Grammar.{Name, weekday, month, day, year, short-year, hour, minute, second, months, rfc1123, rfc850, asctime, forms, rules}
 use Rattle.grammar.specs.helpers.Words.{begins}
 use Rattle.date.specs.Names.{month-names, day-names, first-name}
 use Rattle.date.specs.helpers.Scan.{tail-of, Inside, rest-of, rest-bytes, rfc850-head, day-part, Goes, AfterDay, AtRfc850, month-then, judged, year-from, Ending, fields-from}

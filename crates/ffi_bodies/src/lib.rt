@@ -3,7 +3,6 @@ ghost use mathlib.Core.Path.{_≡_};
 ghost use lib.ListN.{length};
 ghost use Rattle.framing.specs.Reading.{decode as decoding, decode-output};
 ghost use Rattle.chunk_writer.specs.Writing.{frame-writing as encoding, frame-output as encoded-output};
-ghost use Rattle.octets.specs.Writing.{written};
 ghost use Rattle.chunked.specs.Verdict.{verdict};
 ghost use Rattle.ffi_bodies.specs.Fields.{body-fields};
 ghost use Rattle.ffi.specs.Fields.{written-fields};

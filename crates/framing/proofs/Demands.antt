@@ -8,33 +8,41 @@ use lib.ListN.{length, drop}
 use lib.Seq.{length-take-le}
 use Rattle.grammar.specs.Refusals.{MALFORMED, LINE_TOO_LONG, TRAILER_TOO_LONG, BODY_TOO_LARGE}
 use Rattle.framing.specs.declared.Whole.{Whole}
+use Rattle.framing.specs.Grammar as G
 use Rattle.framing.specs.Grammar.{Body, Broken, limits, chunked}
 use Rattle.framing.specs.Answer as Answer
 use Rattle.framing.specs.Answer.{Answer}
-use Rattle.framing.specs.Demand.{rank, Among, Live, BeginsWhole, Unfinished, Malformed, Over, Decodes, nothing}
-use Rattle.framing.specs.helpers.Machine.{machine, tell, over}
-use Rattle.framing.specs.helpers.Scan.{decode-by, decoded-by}
+use Rattle.framing.specs.Demand.{rank, Among, Live, BeginsWhole, Unfinished, Malformed, Over, Decodes, Nothing}
+use Rattle.framing.specs.helpers.Machine.{machine, tell}
+use Rattle.framing.specs.helpers.Scan.{nothing, decode-by, decoded-by}
 use Rattle.framing.specs.Reading.{judge, found, decode, decoded, decode-output}
 use Rattle.framing.proofs.Machines as Machines
 use Rattle.framing.proofs.Judging.{laws}
 use Rattle.framing.proofs.Rooms.{same, lifts}
 
--- under every set of limits, whatever is written of bytes that are not a whole body
-pub under : (ls : List ℕ) → (Among ls MALFORMED → ⊥) → (early : List ℕ → List ℕ)
-    → Decodes (chunked ls) early (decode-by machine tell ls) (λ r s. decoded-by machine tell ls r early s)
-under ls other early = Machines.decodes (chunked ls) machine tell (λ r. laws ls r other) same lifts early
+-- all that is asked, of the machine under every list of limits without 1, whatever is written of bytes that are not a whole body
+pub under : (ls : List ℕ) → (Among ls MALFORMED → ⊥) → (Early : List ℕ → List ℕ → Type 0) (early : List ℕ → List ℕ)
+    → ((p : List ℕ) → Live Body p → Early p (early p))
+    → Decodes (chunked ls) Early (decode-by machine tell ls) (λ r s. decoded-by machine tell ls r early s)
+under ls other = Machines.decodes (chunked ls) machine tell (λ r. laws ls r other) same lifts
 
-unlimited : Among limits MALFORMED → ⊥
-unlimited a = omega arith
+malformed-no-limit : Among limits MALFORMED → ⊥
+malformed-no-limit a = omega arith
 
--- "at one byte: 1, 5, 6, 7"
+-- "at one byte: 1, 5, 6, 7"; the byte that gets 1 leaves no continuation, so that it breaks no limit (`broken-live`)
 pub in-order : (rank limits LINE_TOO_LONG < rank limits TRAILER_TOO_LONG) × (rank limits TRAILER_TOO_LONG < rank limits BODY_TOO_LARGE)
 in-order = (omega arith, omega arith)
 
--- all that is asked, at once
-pub demands : Decodes (chunked limits) nothing decode decoded
-unfolding over judge found decode decoded
-demands = under limits unlimited nothing
+-- each limit that the grammar states is one of them
+pub all-limits : (r n : ℕ) (p : List ℕ) → Broken r n p → Among limits n
+all-limits r n p (G.longLine i e) = omega arith
+all-limits r n p (G.longTrailer i e) = omega arith
+all-limits r n p (G.noRoom i fits passes) = omega arith
+
+-- all that is asked of document 01's reader, at once
+pub demands : Decodes (chunked limits) Nothing decode decoded
+unfolding judge found decode decoded
+demands = under limits malformed-no-limit Nothing nothing (λ p l. refl)
 
 module _ (r : ℕ) (s : List ℕ) where
   -- "whole, with bytes taken and body length": "bytes taken is the length of the beginning that is the body, body length that of its
@@ -43,8 +51,8 @@ module _ (r : ℕ) (s : List ℕ) where
   whole = demands .whole r s
 
   -- the bytes taken are those of the beginning that is the body
-  pub taken : {w : Whole} {d : List ℕ} (b : BeginsWhole (chunked limits) r s w d) → w .taken ≡ b .bytes
-  taken b = b .tells .taken ∙ length-take-le (b .bytes) s (b .inside)
+  pub taken : {w : Whole} {d : List ℕ} (b : BeginsWhole (chunked limits) r s w d) → w .taken ≡ b .count
+  taken b = b .tells .taken ∙ length-take-le (b .count) s (b .inside)
 
   -- "more": no limit is broken, no beginning is a body, and some continuation makes one
   pub more : (decode r s ≡ Answer.more) ↔ Unfinished (chunked limits) r s
@@ -86,12 +94,13 @@ written s old = (
 -- ## Bodies
 -- no body goes on from a body, and one has one reading: the beginning that is a body is determined, and so is its data
 pub prefix-free : (p : List ℕ) (b : ℕ) (q d e : List ℕ) → Body p d → Body (p ++ (b ∷ q)) e → ⊥
-prefix-free = Machines.prefix-free (chunked limits) machine tell 0 (laws limits 0 unlimited)
+prefix-free = Machines.prefix-free (chunked limits) machine tell 0 (laws limits 0 malformed-no-limit)
 
 pub one-reading : (p d e : List ℕ) → Body p d → Body p e → d ≡ e
-one-reading = Machines.one-reading (chunked limits) machine tell 0 (laws limits 0 unlimited)
+one-reading = Machines.one-reading (chunked limits) machine tell 0 (laws limits 0 malformed-no-limit)
 
 -- "A byte leaves a continuation when the bytes up to and with it have one": the byte that breaks a limit does
-pub broken-live : (r n : ℕ) (p : List ℕ) → Among limits n → Broken r n p → Live Body p
-broken-live r n p a b =
-    Machines.live-to (chunked limits) machine tell r (laws limits r unlimited) p (laws limits r unlimited .over-from p n a b .0)
+pub broken-live : (r n : ℕ) (p : List ℕ) → Broken r n p → Live Body p
+broken-live r n p b =
+    let l = laws limits r malformed-no-limit in
+    Machines.live-to (chunked limits) machine tell r l p (l .over-from p n (all-limits r n p b) b .0)

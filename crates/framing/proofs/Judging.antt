@@ -1,7 +1,7 @@
 -- The laws of the machine for chunked bodies, in every room and under every set of limits: it ends at the grammar's bodies, and its limits
 -- are the grammar's.
 use mathlib.Core.Path.{_≡_, refl, sym, _∙_, ap, ap₂, subst}
-use mathlib.Core.Bool.{Bool, true, false, cond}
+use mathlib.Core.Bool.{Bool, true, false}
 use mathlib.Core.List.{List, [], _∷_, _++_}
 use mathlib.Core.Option.{Option, none, some}
 use Prim.Native.Nat.{ℕ, _+_, _≤_}
@@ -19,17 +19,17 @@ use Rattle.framing.specs.Grammar.{Body, Tells, Broken, chunked}
 use Rattle.framing.specs.helpers.Machine.{End, step, emit, live, lineLive, done, tell, longLine, longTrailer, pastRoom, noRoom}
 use Rattle.framing.specs.helpers.Machine.{broke, start, machine}
 use Rattle.framing.specs.helpers.Scan.{judgeBy, first, run, out, Quiet}
-use Rattle.framing.proofs.Cases.{false-true, by-cond}
+use Rattle.framing.proofs.Cases.{false-true, none-some, by-cond, never}
 use Rattle.framing.proofs.Scanning.{run-keeps}
 use Rattle.framing.proofs.Ranks.{first-none, none-first}
-use Rattle.framing.proofs.Machines.{Laws, judge, judged-none, none-some}
+use Rattle.framing.proofs.Machines.{Laws, judge, judged-none}
 use Rattle.framing.proofs.Goes.{goes-body, Finish, finish, dead}
 use Rattle.framing.proofs.Past.{Ended, Past, past}
-use Rattle.framing.proofs.Rooms.{sizeOf, Fits, ShortLine, ShortTrailer, keep-fits, keep-line, keep-trailer}
+use Rattle.framing.proofs.Rooms.{Fits, ShortLine, ShortTrailer, keep-line, keep-trailer}
 use Rattle.framing.proofs.Finds.{Finds, finds}
 use Rattle.framing.proofs.LongLine.{long-line-found, long-line-broken}
 use Rattle.framing.proofs.LongTrailer.{long-trailer-found, long-trailer-broken}
-use Rattle.framing.proofs.NoRoom.{no-room-found, no-room-broken}
+use Rattle.framing.proofs.NoRoom.{no-room-found, no-room-broken, fits}
 
 -- ## Ends
 done-is : (s : State) (e : End) → done s ≡ some e → s ≡ Done (e .length)
@@ -82,55 +82,55 @@ module _ (room : ℕ) where
   found n (G.longTrailer i e) = long-trailer-found i e
   found n (G.noRoom i fits passes) = no-room-found room i passes
 
+  -- no byte so far broke the limit
+  abbrev Unpassed : ℕ → List ℕ → Type 0
+  Unpassed n p = (i : ℕ) → i ≤ length p → broke room n (run step start (take i p)) ≡ false
+
   -- by its number, from the ties of each
-  broken : (n : ℕ) (p : List ℕ) (b : ℕ) → (n ≡ BODY_TOO_LARGE → Fits room (run step start p)) → live (run step start (p ++ (b ∷ []))) ≡ true
+  broken : (n : ℕ) (p : List ℕ) (b : ℕ) → Unpassed n p → live (run step start (p ++ (b ∷ []))) ≡ true
       → broke room n (run step start (p ++ (b ∷ []))) ≡ true → Broken room n (p ++ (b ∷ []))
-  broken n p b fits a =
-      by-cond Holds (eqb n LINE_TOO_LONG)
-      (λ e h. is LINE_TOO_LONG e (long-line-broken room behind (p ++ (b ∷ [])) (out step emit start (p ++ (b ∷ []))) h a (past (p ++ (b ∷ [])))))
+  broken n p b before a =
+      by-cond Holds (eqb n BODY_TOO_LARGE)
+      (λ e h. is BODY_TOO_LARGE e (no-room-broken room p b (was BODY_TOO_LARGE e) h))
+      (λ _. by-cond Holds (eqb n LINE_TOO_LONG)
+      (λ e h. is LINE_TOO_LONG e (long-line-broken room behind all given h a (past all)))
       (λ _. by-cond Holds (eqb n TRAILER_TOO_LONG)
-      (λ e h. is TRAILER_TOO_LONG e
-      (long-trailer-broken room behind (p ++ (b ∷ [])) (out step emit start (p ++ (b ∷ []))) h a (past (p ++ (b ∷ [])))))
-      (λ _. by-cond Holds (eqb n BODY_TOO_LARGE)
-      (λ e h. is BODY_TOO_LARGE e (no-room-broken room p b (fits (eqb-true n BODY_TOO_LARGE e)) h))
+      (λ e h. is TRAILER_TOO_LONG e (long-trailer-broken room behind all given h a (past all)))
       (λ _ h. false-true h)))
     where
+      all : List ℕ
+      all = p ++ (b ∷ [])
+
       behind : State
-      behind = run step start (p ++ (b ∷ []))
+      behind = run step start all
+
+      given : List ℕ
+      given = out step emit start all
 
       Holds : Bool → Type 0
       Holds x = x ≡ true
+
+      was : (m : ℕ) → eqb n m ≡ true → Unpassed m p
+      was m e = subst (λ (k : ℕ). Unpassed k p) (eqb-true n m e) before
 
       is : (m : ℕ) → eqb n m ≡ true → Broken room m (p ++ (b ∷ [])) → Broken room n (p ++ (b ∷ []))
       is m e = subst (λ (k : ℕ). Broken room k (p ++ (b ∷ []))) (sym (eqb-true n m e))
 
   unbroken : (n : ℕ) → broke room n start ≡ false
   unfolding pastRoom
-  unbroken n = go (eqb n LINE_TOO_LONG) (eqb n TRAILER_TOO_LONG) (eqb n BODY_TOO_LARGE)
-    where
-      go : (x y z : Bool) → cond x false (cond y false (cond z false false)) ≡ false
-      go true y z = refl
-      go false true z = refl
-      go false false true = refl
-      go false false false = refl
+  unbroken n = never (eqb n BODY_TOO_LARGE) (never (eqb n LINE_TOO_LONG) (never (eqb n TRAILER_TOO_LONG) refl))
 
 module _ (ls : List ℕ) (room : ℕ) where
   -- bytes with no verdict are within the limits
-  unpassed : (n : ℕ) → Among ls n → (p : List ℕ) → Quiet step (judge (chunked ls) machine tell room) start p (length p)
-      → (i : ℕ) → i ≤ length p → broke room n (run step start (take i p)) ≡ false
+  unpassed : (n : ℕ) → Among ls n → (p : List ℕ) → Quiet step (judge (chunked ls) machine tell room) start p (length p) → Unpassed room n p
   unpassed n a p k i h =
       first-none (λ m. broke room m (run step start (take i p))) ls n
       (judged-none (live (run step start (take i p))) (done (run step start (take i p)))
       (first (λ m. broke room m (run step start (take i p))) ls) (k i h) .2) a
 
-  start-fits : Fits room start
-  unfolding Fits sizeOf
-  start-fits = omega arith
-
   pub quiet-fits : Among ls BODY_TOO_LARGE → (p : List ℕ) → Quiet step (judge (chunked ls) machine tell room) start p (length p)
       → Fits room (run step start p)
-  quiet-fits a p k =
-      run-keeps step (Fits room) (noRoom room) (keep-fits room) p start start-fits (unpassed BODY_TOO_LARGE a p k)
+  quiet-fits a p k = fits room p (unpassed BODY_TOO_LARGE a p k)
 
   start-line : ShortLine start
   unfolding ShortLine
@@ -161,7 +161,7 @@ module _ (ls : List ℕ) (room : ℕ) where
     finish = completes;
     body-to = body-to;
     body-from = body-from;
-    over-to = λ p b n k a l o. broken room n p b (λ e. quiet-fits (subst (Among ls) e a) p k) l o;
+    over-to = λ p b n k a l o. broken room n p b (unpassed n a p k) l o;
     over-from = λ p n a b. finds (broke room n) p (found room n b);
     other = other;
   }

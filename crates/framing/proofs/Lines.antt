@@ -15,15 +15,12 @@ use Rattle.framing.specs.Grammar.{Many, valueFrom, Extensions, Line}
 use Rattle.framing.specs.helpers.Machine.{extensions, lineStep, lineEnds, lineLive}
 use Rattle.framing.specs.helpers.Scan.{run}
 use Rattle.framing.proofs.Scanning.{run-append}
-use Rattle.framing.proofs.Cases.{false-true, by-cond}
+use Rattle.framing.proofs.Cases.{false-true, none-some, by-cond}
 use Rattle.framing.proofs.Parts.{at, never-ends}
 use Rattle.framing.proofs.Exts.{extensions-read, extensions-no-cr, extensions-begin}
 
 abbrev pub lineRun : LinePos → List ℕ → LinePos
 lineRun = run lineStep
-
-pub none-some : {A : Type 0} {v : ℕ} → none ≡ some v → A
-none-some e = let z : _≡_ {A = ℕ} 0 1 = cc in absurd (omega arith)
 
 -- ## From the machine to the grammar
 
@@ -35,8 +32,8 @@ data Waits : LinePos → ℕ → List ℕ → Type 0 where
 from-first : {v : ℕ} {xs : List ℕ} → Waits First v xs → Line xs v
 from-first (first l) = l
 
-bad : {A : Type 0} {v w : ℕ} {xs : List ℕ} → Waits (Ext w ExtPos.Bad) v xs → A
-bad (ext {xs = xs} h) = never-ends extensions extensions-read ExtPos.Bad xs refl h
+bad : {A : Type 0} {v w : ℕ} {xs : List ℕ} → Waits (Ext w ExtPos.Dead) v xs → A
+bad (ext {xs = xs} h) = never-ends extensions extensions-read ExtPos.Dead xs refl h
 
 size-first : {b v : ℕ} {xs : List ℕ} → hex? b ≡ true → Waits (Size (0 * 16 + hex-value b)) v xs → Waits First v (b ∷ xs)
 size-first {b} h (size {s = s} m e) = first (G.line (G.size (G.some h m)) e)

@@ -1,7 +1,7 @@
 -- The limit on chunk lines: the machine finds it where the grammar says that it is broken, and nowhere else.
-use mathlib.Core.Path.{_≡_, refl, sym, _∙_, ap, subst}
-use mathlib.Core.Bool.{true, false}
-use mathlib.Core.List.{List, [], _∷_, _++_}
+use mathlib.Core.Path.{_≡_, sym, _∙_, ap, subst}
+use mathlib.Core.Bool.{true}
+use mathlib.Core.List.{List, _++_}
 use mathlib.Core.Option.{some}
 use Prim.Native.Nat.{ℕ, suc, _+_}
 use native.Mathlib.Omega.{arith}
@@ -32,7 +32,6 @@ long-line-found (G.inLine {d = d} {l = l} u {v = v} cs h) e =
       state = Line (lineRun First l) (0 + length l) (length d);
       reached = then (goes-chunks cs) (goes-line l First 0 (length d) a) .ends;
       alive = a;
-      undone = refl;
       passed = eq-eqb (0 + length l) (suc LINE_LIMIT) (omega arith);
     }
 

@@ -1,13 +1,12 @@
 -- The limit on trailers: the machine finds it where the grammar says that it is broken, and nowhere else.
-use mathlib.Core.Path.{_≡_, refl, sym, _∙_, ap, subst}
-use mathlib.Core.Bool.{true, false}
+use mathlib.Core.Path.{_≡_, sym, _∙_, ap, subst}
+use mathlib.Core.Bool.{true}
 use mathlib.Core.List.{List, [], _∷_, _++_, append-assoc, append-nil}
 use Prim.Native.Nat.{ℕ, suc, _+_}
 use native.Mathlib.Omega.{arith}
 use lib.ListN.{length}
 use borrow.Author.Tests.{eqb-true, eq-eqb}
 use Rattle.grammar.specs.Refusals.{TRAILER_TOO_LONG}
-use Rattle.framing.specs.declared.TrailPos.{TrailPos}
 use Rattle.framing.specs.declared.State.{State}
 use Rattle.framing.specs.declared.State.the-variants.{Line, LineFeed, Data, DataCr, DataLf, Trail, EndLf, Done, Dead}
 use Rattle.framing.specs.Grammar as G
@@ -30,7 +29,6 @@ long-trailer-found (G.inTrailer {c = c} {d = d} {l = l} {t = t} u cs h y) e =
       reached = ap (λ (z : List ℕ). run step start (c ++ z)) (sym (append-assoc l (13 ∷ 10 ∷ []) t))
           ∙ then (goes-chunks cs) (then (goes-last-line (length d) h) (goes-trail t (trailer .begin) 0 (length d) a)) .ends;
       alive = a;
-      undone = refl;
       passed = eq-eqb (0 + length t) (suc TRAILER_LIMIT) (omega arith);
     }
 

@@ -14,16 +14,13 @@ use Rattle.grammar.specs.Refusals.{MALFORMED, BODY_TOO_LARGE}
 use Rattle.framing.specs.Answer.{Answer, whole, more, refused}
 use Rattle.framing.specs.Demand as Demand
 use Rattle.framing.specs.Demand.{Format, rank, Among, Unended, Unbroken, BeginsWhole, Unfinished, Reaches, Malformed, Over, Decodes}
-use Rattle.framing.specs.helpers.Scan.{Machine, Verdict, ended, refusal, first, verdictOf, judgeBy, Found, going}
+use Rattle.framing.specs.helpers.Scan.{Machine, Verdict, ended, refusal, verdictOf, judgeBy, Found, going}
 use Rattle.framing.specs.helpers.Scan.{stop, run, out, Quiet, answer, written}
 use Rattle.framing.specs.helpers.Scan.{over-by, judge-by, find-by, decode-by, decoded-by}
-use Rattle.framing.proofs.Cases.{false-true}
+use Rattle.framing.proofs.Cases.{false-true, none-some, same-some}
 use Rattle.framing.proofs.Ranks.{same-rank, first-passes, first-found, first-same}
 use Rattle.framing.proofs.Scanning.{run-append, run-live, Stops, quiet-on, going-quiet}
 use Rattle.framing.proofs.Scanning.{stop-stops, quiet-going, stops-stop, stands, same-scan}
-
-pub none-some : {A B : Type 0} {v : B} → none ≡ some v → A
-none-some e = let z : _≡_ {A = ℕ} 0 1 = cc in absurd (omega arith)
 
 not-ended : {A E : Type 0} {n : ℕ} {e : E} → some (refusal n) ≡ some (ended e) → A
 not-ended e = let z : _≡_ {A = ℕ} 0 1 = cc in absurd (omega arith)
@@ -31,22 +28,22 @@ not-ended e = let z : _≡_ {A = ℕ} 0 1 = cc in absurd (omega arith)
 -- ## Verdicts, taken apart
 module _ {E : Type 0} where
   pub judged-none : (l : Bool) (d : Option E) (o : Option ℕ) → judgeBy l d o ≡ none → (l ≡ true) × (d ≡ none) × (o ≡ none)
+  judged-none true d (some n) e = none-some (sym e)
   judged-none true none none e = (refl, refl, refl)
-  judged-none true none (some n) e = none-some (sym e)
-  judged-none true (some t) o e = none-some (sym e)
+  judged-none true (some t) none e = none-some (sym e)
   judged-none false d o e = none-some (sym e)
 
   judged-ended : (l : Bool) (d : Option E) (o : Option ℕ) (t : E) → judgeBy l d o ≡ some (ended t) → d ≡ some t
+  judged-ended true d (some n) t e = not-ended e
   judged-ended true none none t e = none-some e
-  judged-ended true none (some n) t e = not-ended e
-  judged-ended true (some u) o t e = cc
+  judged-ended true (some u) none t e = cc
   judged-ended false d o t e = not-ended e
 
   judged-refusal : (l : Bool) (d : Option E) (o : Option ℕ) (n : ℕ) → judgeBy l d o ≡ some (refusal n)
       → ((l ≡ false) × (n ≡ MALFORMED)) ⊎ ((l ≡ true) × (o ≡ some n))
+  judged-refusal true d (some m) n e = inr (refl, cc)
   judged-refusal true none none n e = none-some e
-  judged-refusal true none (some m) n e = inr (refl, cc)
-  judged-refusal true (some u) o n e = not-ended (sym e)
+  judged-refusal true (some u) none n e = not-ended (sym e)
   judged-refusal false d o n e = inl (refl, cc)
 
   judged : (l l′ : Bool) (d d′ : Option E) (o o′ : Option ℕ) → l ≡ l′ → d ≡ d′ → o ≡ o′ → judgeBy l d o ≡ judgeBy l′ d′ o′
@@ -109,7 +106,7 @@ module _ {E S W : Type 0} (f : Format W) (machine : Machine E S) (tell : ℕ →
         → machine .live (reached (p ++ (b ∷ []))) ≡ true → machine .broke room n (reached (p ++ (b ∷ []))) ≡ true
         → f .Broken room n (p ++ (b ∷ []))
     pub over-from : (p : List ℕ) (n : ℕ) → Among (f .limits) n → f .Broken room n p
-        → (machine .live (reached p) ≡ true) × (machine .done (reached p) ≡ none) × (machine .broke room n (reached p) ≡ true)
+        → (machine .live (reached p) ≡ true) × (machine .broke room n (reached p) ≡ true)
     -- "malformed" is no limit
     pub other : Among (f .limits) MALFORMED → ⊥
 
@@ -156,10 +153,16 @@ module _ {E S W : Type 0} (f : Format W) (machine : Machine E S) (tell : ℕ →
     one-reading p d e x y = sym (laws .body-from p d x .2) ∙ laws .body-from p e y .2
 
     -- ## The verdict that each kind of beginning gets
-    body-judged : (p d : List ℕ) (b : f .Body p d) → judge (reached p) ≡ some (ended (laws .body-from p d b .0))
-    body-judged p d b =
-        judged (machine .live (reached p)) true (machine .done (reached p)) (some (laws .body-from p d b .0)) (over (reached p))
-        (over (reached p)) (body-alive p d b) (laws .body-from p d b .1) refl
+    body-judged : (p d : List ℕ) (b : f .Body p d) → over (reached p) ≡ none → judge (reached p) ≡ some (ended (laws .body-from p d b .0))
+    body-judged p d b o =
+        judged (machine .live (reached p)) true (machine .done (reached p)) (some (laws .body-from p d b .0)) (over (reached p)) none
+        (body-alive p d b) (laws .body-from p d b .1) o
+
+    -- where there is no verdict, no body has ended
+    undone : {A : Type 0} (p d : List ℕ) → f .Body p d → judge (reached p) ≡ none → A
+    undone p d b e =
+        none-some (sym (judged-none (machine .live (reached p)) (machine .done (reached p)) (over (reached p)) e .1)
+        ∙ laws .body-from p d b .1)
 
     dead-judged : (p : List ℕ) → (Live p → ⊥) → judge (reached p) ≡ some (refusal MALFORMED)
     dead-judged p n = go (machine .live (reached p)) refl
@@ -175,9 +178,10 @@ module _ {E S W : Type 0} (f : Format W) (machine : Machine E S) (tell : ℕ →
     broken-judged p n a b =
         let w = laws .over-from p n a b in
         let o : (m : ℕ) × (over (reached p) ≡ some m) × (rank (f .limits) m ≤ rank (f .limits) n)
-        = first-found (λ m. machine .broke room m (reached p)) (f .limits) n a (w .2) in (
+        = first-found (λ m. machine .broke room m (reached p)) (f .limits) n a (w .1) in (
           o .0,
-          judged (machine .live (reached p)) true (machine .done (reached p)) none (over (reached p)) (some (o .0)) (w .0) (w .1) (o .1),
+          judged (machine .live (reached p)) true (machine .done (reached p)) (machine .done (reached p)) (over (reached p)) (some (o .0)) (w .0)
+              refl (o .1),
           o .1,
           o .2,
         )
@@ -229,7 +233,7 @@ module _ {E S W : Type 0} (f : Format W) (machine : Machine E S) (tell : ℕ →
           let w = broken-judged (take (suc i) s) m a b in none-some (sym (k (suc i) h) ∙ w .1)
 
       still-unended : (n : ℕ) → Still n → Unended (f .Body) s n
-      still-unended n k i d h b = none-some (sym (k i h) ∙ body-judged (take i s) d b)
+      still-unended n k i d h b = undone (take i s) d b (k i h)
 
       still-live : (n : ℕ) → Still n → Live (take n s)
       still-live n k =
@@ -320,9 +324,6 @@ module _ {E S W : Type 0} (f : Format W) (machine : Machine E S) (tell : ℕ →
       malformed-from j m = ap (answer tell) (stop-at j (refusal MALFORMED) (m .reaches) (live-from (take j s) (m .live))
           (dead-judged (take (suc j) s) (m .dead)))
 
-      same-some : (n m : ℕ) → some n ≡ some m → n ≡ m
-      same-some n m e = cc
-
       limit-to : (n j : ℕ) → (n ≡ MALFORMED → ⊥) → decode s ≡ refused n j → Over f room s n j
       limit-to n j g e =
           let t : Stops (machine .step) judge (machine .start) s j (refusal n) = stopped j (refusal n) (refused-of tell (found s) n j e) in
@@ -368,7 +369,7 @@ module _ {E S W : Type 0} (f : Format W) (machine : Machine E S) (tell : ℕ →
           (t .verdict)) in (
             data-of (take (suc (o .0)) s),
             record {
-              bytes = suc (o .0);
+              count = suc (o .0);
               inside = t .inside;
               body = b .0;
               tells = subst (λ (x : W). f .Tells x (take (suc (o .0)) s) (data-of (take (suc (o .0)) s)))
@@ -384,30 +385,40 @@ module _ {E S W : Type 0} (f : Format W) (machine : Machine E S) (tell : ℕ →
               not-ended (sym (y .1) ∙ ap (λ (x : ℕ). judge (front (suc x))) z ∙ t .verdict)
           go i e t m j a h b (no z) = still-unbroken i (t .quiet) m j a (omega arith) b
 
+      -- a byte that breaks no limit
+      within : (i : ℕ) → i < length s → Still i → machine .live (front (suc i)) ≡ true
+          → ((n : ℕ) → Among (f .limits) n → f .Broken room n (take (suc i) s) → ⊥) → over (front (suc i)) ≡ none
+      within i h k l u = go (over (front (suc i))) refl
+        where
+          go : (o : Option ℕ) → over (front (suc i)) ≡ o → o ≡ none
+          go none e = refl
+          go (some n) e = let z = over-at i n h k l e in absurd (u n (z .0) (z .1))
+
       found-whole : (n : ℕ) (d : List ℕ) → n ≤ length s → f .Body (take n s) d → Unbroken f room s n
           → (i : ℕ) × (e : E) × (n ≡ suc i) × (found s ≡ stop i (ended e)) × ((w : W) → f .Tells w (take n s) d → w ≡ tell n e)
-      found-whole zero d k b u = none-some (sym (laws .opens) ∙ body-judged [] d b)
+      found-whole zero d k b u = undone [] d b (laws .opens)
       found-whole (suc i) d k b u =
           let a : machine .live (front (suc i)) ≡ true = body-alive (take (suc i) s) d b in
-          let e : E = laws .body-from (take (suc i) s) d b .0 in (
+          let e : E = laws .body-from (take (suc i) s) d b .0 in
+          let l : machine .live (front i) ≡ true = alive-below i (suc i) (omega arith) a in
+          let r : Reaches f room s i = record {
+            inside = k;
+            unbroken = λ m j c h z. u m j c (omega arith) z;
+            unended = λ j c h z.
+                false-true (sym (ended-dead j c (omega (arith, k)) z) ∙ alive-below (suc j) (suc i) (omega arith) a);
+          } in
+          let q : Still i = still i (omega (arith, k)) l (r .unbroken) (r .unended) in (
             i,
             e,
             refl,
-            stop-at i (ended e)
-                (record {
-                  inside = k;
-                  unbroken = λ m j c h z. u m j c (omega arith) z;
-                  unended = λ j c h z.
-                      false-true (sym (ended-dead j c (omega (arith, k)) z) ∙ alive-below (suc j) (suc i) (omega arith) a);
-                })
-                (alive-below i (suc i) (omega arith) a) (body-judged (take (suc i) s) d b),
+            stop-at i (ended e) r l (body-judged (take (suc i) s) d b (within i k q a (λ n c z. u n i c (omega arith) z))),
             λ w z. laws .body-from (take (suc i) s) d b .3 w z ∙ ap (λ (n : ℕ). tell n e) (taken-bytes i k),
           )
 
       whole-from : (w : W) (d : List ℕ) → BeginsWhole f room s w d → decode s ≡ whole w
       unfolding answer
       whole-from w d b =
-          let o = found-whole (b .bytes) d (b .inside) (b .body) (b .unbroken) in
+          let o = found-whole (b .count) d (b .inside) (b .body) (b .unbroken) in
           ap (answer tell) (o .3) ∙ ap whole (ap (λ (n : ℕ). tell n (o .1)) (sym (o .2)) ∙ sym (o .4 w (b .tells)))
 
       -- ## Written bytes, whatever is written before a body is whole
@@ -418,14 +429,17 @@ module _ {E S W : Type 0} (f : Format W) (machine : Machine E S) (tell : ℕ →
         writes-of : (w : W) (d : List ℕ) → BeginsWhole f room s w d → writes ≡ d
         unfolding written
         writes-of w d b =
-            let o = found-whole (b .bytes) d (b .inside) (b .body) (b .unbroken) in
+            let o = found-whole (b .count) d (b .inside) (b .body) (b .unbroken) in
             ap (λ (z : Found (Verdict E)). written early data-of z s) (o .3)
             ∙ ap (λ (n : ℕ). data-of (take n s)) (sym (o .2))
-            ∙ laws .body-from (take (b .bytes) s) d (b .body) .2
+            ∙ laws .body-from (take (b .count) s) d (b .body) .2
 
         keeps-more : decode s ≡ more → writes ≡ early s
         unfolding written
         keeps-more e = ap (λ (z : Found (Verdict E)). written early data-of z s) (more-of tell (found s) e)
+
+        refused-live : (n p : ℕ) → decode s ≡ refused n p → Live (take p s)
+        refused-live n p e = still-live p (stopped p (refusal n) (refused-of tell (found s) n p e) .quiet)
 
         keeps-refused : (n p : ℕ) → decode s ≡ refused n p → writes ≡ early (take p s)
         unfolding written
@@ -464,43 +478,47 @@ module _ {E S W : Type 0} (f : Format W) (machine : Machine E S) (tell : ℕ →
     -- a larger room changes one limit alone, and lifts it
     (same : (r q n : ℕ) (s : S) → (n ≡ BODY_TOO_LARGE → ⊥) → machine .broke q n s ≡ machine .broke r n s)
     (lifts : (r q : ℕ) (s : S) → r ≤ q → machine .broke q BODY_TOO_LARGE s ≡ true → machine .broke r BODY_TOO_LARGE s ≡ true)
-    (early : List ℕ → List ℕ) where
-  abbrev found-in : ℕ → List ℕ → Found (Verdict E)
-  found-in = find-by machine tell (f .limits)
+    -- what is written of the bytes accepted, where these are not a whole body
+    (Early : List ℕ → List ℕ → Type 0) (early : List ℕ → List ℕ) (writes-early : (p : List ℕ) → Demand.Live (f .Body) p → Early p (early p))
+  where
+    abbrev found-in : ℕ → List ℕ → Found (Verdict E)
+    found-in = find-by machine tell (f .limits)
 
-  abbrev decode-in : ℕ → List ℕ → Answer W
-  decode-in = decode-by machine tell (f .limits)
+    abbrev decode-in : ℕ → List ℕ → Answer W
+    decode-in = decode-by machine tell (f .limits)
 
-  agree : (l : Bool) (d : Option E) (o o′ : Option ℕ) → (o ≡ some BODY_TOO_LARGE) ⊎ (o′ ≡ o)
-      → (judgeBy l d o ≡ some (refusal BODY_TOO_LARGE)) ⊎ (judgeBy l d o′ ≡ judgeBy l d o)
-  agree false d o o′ h = inr refl
-  agree true (some t) o o′ h = inr refl
-  agree true none o o′ h = ⊎-elim (λ (e : o ≡ some BODY_TOO_LARGE). inl (ap (λ (z : Option ℕ). verdictOf none z) e))
-      (λ (e : o′ ≡ o). inr (ap (λ (z : Option ℕ). verdictOf none z) e)) h
+    agree : (l : Bool) (d : Option E) (o o′ : Option ℕ) → (o ≡ some BODY_TOO_LARGE) ⊎ (o′ ≡ o)
+        → (judgeBy l d o ≡ some (refusal BODY_TOO_LARGE)) ⊎ (judgeBy l d o′ ≡ judgeBy l d o)
+    agree false d o o′ h = inr refl
+    agree true d o o′ h = ⊎-elim (λ (e : o ≡ some BODY_TOO_LARGE). inl (ap (λ (z : Option ℕ). verdictOf z d) e))
+        (λ (e : o′ ≡ o). inr (ap (λ (z : Option ℕ). verdictOf z d) e)) h
 
-  roomier-found : (r q : ℕ) (s : List ℕ) → r ≤ q → ((p : ℕ) → decode-in r s ≡ refused BODY_TOO_LARGE p → ⊥) → found-in q s ≡ found-in r s
-  unfolding answer
-  roomier-found r q s h g =
-      same-scan (machine .step) (judge-by machine tell (f .limits) r) (judge-by machine tell (f .limits) q) (refusal BODY_TOO_LARGE)
-      (λ z. agree (machine .live z) (machine .done z) (over-by machine tell (f .limits) r z) (over-by machine tell (f .limits) q z)
-      (first-same (λ n. machine .broke r n z) (λ n. machine .broke q n z) BODY_TOO_LARGE (λ n k. same r q n z k) (λ k. lifts r q z h k)
-      (f .limits)))
-      (machine .start) 0 s (λ j z. g j (ap (answer tell) z))
+    roomier-found : (r q : ℕ) (s : List ℕ) → r ≤ q → ((p : ℕ) → decode-in r s ≡ refused BODY_TOO_LARGE p → ⊥) → found-in q s ≡ found-in r s
+    unfolding answer
+    roomier-found r q s h g =
+        same-scan (machine .step) (judge-by machine tell (f .limits) r) (judge-by machine tell (f .limits) q) (refusal BODY_TOO_LARGE)
+        (λ z. agree (machine .live z) (machine .done z) (over-by machine tell (f .limits) r z) (over-by machine tell (f .limits) q z)
+        (first-same (λ n. machine .broke r n z) (λ n. machine .broke q n z) BODY_TOO_LARGE (λ n k. same r q n z k) (λ k. lifts r q z h k)
+        (f .limits)))
+        (machine .start) 0 s (λ j z. g j (ap (answer tell) z))
 
-  pub decodes : Decodes f early decode-in (λ r s. decoded-by machine tell (f .limits) r early s)
-  unfolding answer
-  decodes = record {
-    whole = λ r s w. (whole-to f machine tell r (laws r) s w, λ b. whole-from f machine tell r (laws r) s w (b .0) (b .1));
-    more = λ r s. (more-to f machine tell r (laws r) s, more-from f machine tell r (laws r) s);
-    malformed = λ r s p. (malformed-to f machine tell r (laws r) s p, malformed-from f machine tell r (laws r) s p);
-    limit = λ r s n p g. (limit-to f machine tell r (laws r) s n p g, limit-from f machine tell r (laws r) s n p);
-    writes = λ r s. writes-of f machine tell r (laws r) s early;
-    keeps-more = λ r s. keeps-more f machine tell r (laws r) s early;
-    keeps-refused = λ r s. keeps-refused f machine tell r (laws r) s early;
-    stands = λ r s t g. stands-both f machine tell r (laws r) s early t g;
-    roomier = λ r q s h g.
-        let e : found-in q s ≡ found-in r s = roomier-found r q s h g in (
-          ap (answer tell) e,
-          ap (λ (z : Found (Verdict E)). written early (out (machine .step) (machine .emit) (machine .start)) z s) e,
-        );
-  }
+    pub decodes : Decodes f Early decode-in (λ r s. decoded-by machine tell (f .limits) r early s)
+    unfolding answer
+    decodes = record {
+      whole = λ r s w. (whole-to f machine tell r (laws r) s w, λ b. whole-from f machine tell r (laws r) s w (b .0) (b .1));
+      more = λ r s. (more-to f machine tell r (laws r) s, more-from f machine tell r (laws r) s);
+      malformed = λ r s p. (malformed-to f machine tell r (laws r) s p, malformed-from f machine tell r (laws r) s p);
+      limit = λ r s n p g. (limit-to f machine tell r (laws r) s n p g, limit-from f machine tell r (laws r) s n p);
+      writes = λ r s. writes-of f machine tell r (laws r) s early;
+      keeps-more = λ r s e.
+          subst (Early s) (sym (keeps-more f machine tell r (laws r) s early e)) (writes-early s (more-to f machine tell r (laws r) s e .live));
+      keeps-refused = λ r s n p e.
+          subst (Early (take p s)) (sym (keeps-refused f machine tell r (laws r) s early n p e))
+          (writes-early (take p s) (refused-live f machine tell r (laws r) s early n p e));
+      stands = λ r s t g. stands-both f machine tell r (laws r) s early t g;
+      roomier = λ r q s h g.
+          let e : found-in q s ≡ found-in r s = roomier-found r q s h g in (
+            ap (answer tell) e,
+            ap (λ (z : Found (Verdict E)). written early (out (machine .step) (machine .emit) (machine .start)) z s) e,
+          );
+    }

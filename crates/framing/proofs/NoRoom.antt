@@ -1,12 +1,12 @@
 -- The limit that is the room: the machine finds it where the grammar says that it is broken, and nowhere else as long as all before fitted.
 use mathlib.Core.Path.{_≡_, refl, sym, _∙_, ap, subst}
-use mathlib.Core.Bool.{Bool, true, false, _&&_, cond}
+use mathlib.Core.Bool.{Bool, true, false, _&&_}
 use mathlib.Core.List.{List, [], _∷_, _++_, append-assoc}
 use mathlib.Core.Option.{Option, none, some}
 use Prim.Native.Nat.{ℕ, zero, suc, _+_, _*_, _<_, _≤_}
 use native.Mathlib.Omega.{arith}
-use lib.Dec.{eqb, ltb}
-use lib.ListN.{length}
+use lib.Dec.{eqb}
+use lib.ListN.{length, take}
 use borrow.Author.Tests.{ltb-true, lt-ltb}
 use Rattle.grammar.specs.Refusals.{BODY_TOO_LARGE}
 use Rattle.octets.specs.Bytes.{hex?, hex-value, octet?}
@@ -20,11 +20,11 @@ use Rattle.framing.specs.helpers.Machine.{lineStep, lineEnds, lineLive, 
 use Rattle.framing.specs.helpers.Machine.{step, emit, live, done, pastRoom, noRoom, start}
 use Rattle.framing.specs.helpers.Scan.{run, out}
 use Rattle.framing.proofs.Cases.{false-true, by-cond}
-use Rattle.framing.proofs.Scanning.{run-append}
+use Rattle.framing.proofs.Scanning.{run-append, run-keeps}
 use Rattle.framing.proofs.Lines.{lineRun, run-digits, run-size, digits-complete}
 use Rattle.framing.proofs.Goes.{then, goes-chunks, goes-line}
 use Rattle.framing.proofs.Past.{InLine, Past, past}
-use Rattle.framing.proofs.Rooms.{sizeOf, Fits}
+use Rattle.framing.proofs.Rooms.{sizeOf, Fits, keep-fits}
 use Rattle.framing.proofs.Finds.{Finds}
 
 -- ## Digits
@@ -51,35 +51,52 @@ many-size (a ∷ l) b (G.more k m) h = G.size (G.some k (on m))
     on G.none = G.more h G.none
     on (G.more x y) = G.more x (on y)
 
+-- do the digits of a size stand last
+abbrev sized : State → Bool
+sized (Line First k t) = false
+sized (Line (Size v) k t) = true
+sized (Line (Ext v e) k t) = false
+sized (LineFeed v t) = false
+sized (Data m t) = false
+sized (DataCr t) = false
+sized (DataLf t) = false
+sized (Trail p k t) = false
+sized (EndLf t) = false
+sized (Done t) = false
+sized Dead = false
+
 -- a step into a size comes from a line
 step-size : (s : State) (b w k t : ℕ) → step s b ≡ Line (Size w) k t → (q : LinePos) × (j : ℕ) × (s ≡ Line q j t) × (lineStep q b ≡ Size w)
 unfolding step leaveLine enterChunk
-step-size (Line p j u) b w k t e = by-cond (λ (z : State). z ≡ Line (Size w) k t) (eqb b 13) (λ _ z. left (lineEnds p) z)
-    (λ _ z. let x : lineStep p b ≡ Size w = cc in let y : u ≡ t = cc in (p, j, ap (Line p j) y, x)) e
+step-size s b w k t = go s
   where
-    left : {A : Type 0} (o : Option ℕ) → leaveLine o u ≡ Line (Size w) k t → A
-    left none z = let y : _≡_ {A = ℕ} 0 1 = cc in absurd (omega arith)
-    left (some v) z = let y : _≡_ {A = ℕ} 0 1 = cc in absurd (omega arith)
-step-size (LineFeed v u) b w k t e = by-cond (λ (z : State). z ≡ Line (Size w) k t) (eqb b 10) (λ _ z. left v z)
-    (λ _ z. let y : _≡_ {A = ℕ} 0 1 = cc in absurd (omega arith)) e
-  where
-    left : {A : Type 0} (n : ℕ) → enterChunk n u ≡ Line (Size w) k t → A
-    left zero z = let y : _≡_ {A = ℕ} 0 1 = cc in absurd (omega arith)
-    left (suc n) z = let y : _≡_ {A = ℕ} 0 1 = cc in absurd (omega arith)
-step-size (Data zero u) b w k t e = by-cond (λ (z : State). z ≡ Line (Size w) k t) (octet? b)
-    (λ _ z. let y : _≡_ {A = ℕ} 0 1 = cc in absurd (omega arith)) (λ _ z. let y : _≡_ {A = ℕ} 0 1 = cc in absurd (omega arith)) e
-step-size (Data (suc m) u) b w k t e = by-cond (λ (z : State). z ≡ Line (Size w) k t) (octet? b)
-    (λ _ z. let y : _≡_ {A = ℕ} 0 1 = cc in absurd (omega arith)) (λ _ z. let y : _≡_ {A = ℕ} 0 1 = cc in absurd (omega arith)) e
-step-size (DataCr u) b w k t e = by-cond (λ (z : State). z ≡ Line (Size w) k t) (eqb b 13)
-    (λ _ z. let y : _≡_ {A = ℕ} 0 1 = cc in absurd (omega arith)) (λ _ z. let y : _≡_ {A = ℕ} 0 1 = cc in absurd (omega arith)) e
-step-size (DataLf u) b w k t e = by-cond (λ (z : State). z ≡ Line (Size w) k t) (eqb b 10)
-    (λ _ z. let y : _≡_ {A = ℕ} 0 1 = cc in absurd (omega arith)) (λ _ z. let y : _≡_ {A = ℕ} 0 1 = cc in absurd (omega arith)) e
-step-size (Trail p j u) b w k t e = by-cond (λ (z : State). z ≡ Line (Size w) k t) (trailer .ends p && eqb b 13)
-    (λ _ z. let y : _≡_ {A = ℕ} 0 1 = cc in absurd (omega arith)) (λ _ z. let y : _≡_ {A = ℕ} 0 1 = cc in absurd (omega arith)) e
-step-size (EndLf u) b w k t e = by-cond (λ (z : State). z ≡ Line (Size w) k t) (eqb b 10)
-    (λ _ z. let y : _≡_ {A = ℕ} 0 1 = cc in absurd (omega arith)) (λ _ z. let y : _≡_ {A = ℕ} 0 1 = cc in absurd (omega arith)) e
-step-size (Done u) b w k t e = let y : _≡_ {A = ℕ} 0 1 = cc in absurd (omega arith)
-step-size Dead b w k t e = let y : _≡_ {A = ℕ} 0 1 = cc in absurd (omega arith)
+    Is : State → Type 0
+    Is z = z ≡ Line (Size w) k t
+
+    no : {A : Type 0} (z : State) → sized z ≡ false → Is z → A
+    no z f e = false-true (sym f ∙ ap sized e)
+
+    leaves : {A : Type 0} (o : Option ℕ) (u : ℕ) → Is (leaveLine o u) → A
+    leaves none u = no Dead refl
+    leaves (some v) u = no (LineFeed v u) refl
+
+    enters : {A : Type 0} (n u : ℕ) → Is (enterChunk n u) → A
+    enters zero u = no (Trail (trailer .begin) 0 u) refl
+    enters (suc n) u = no (Data n (u + suc n)) refl
+
+    go : (s : State) → Is (step s b) → (q : LinePos) × (j : ℕ) × (s ≡ Line q j t) × (lineStep q b ≡ Size w)
+    go (Line p j u) = by-cond Is (eqb b 13) (λ _. leaves (lineEnds p) u)
+        (λ _ z. let x : lineStep p b ≡ Size w = cc in let y : u ≡ t = cc in (p, j, ap (Line p j) y, x))
+    go (LineFeed v u) = by-cond Is (eqb b 10) (λ _. enters v u) (λ _. no Dead refl)
+    go (Data zero u) = by-cond Is (octet? b) (λ _. no (DataCr u) refl) (λ _. no Dead refl)
+    go (Data (suc m) u) = by-cond Is (octet? b) (λ _. no (Data m u) refl) (λ _. no Dead refl)
+    go (DataCr u) = by-cond Is (eqb b 13) (λ _. no (DataLf u) refl) (λ _. no Dead refl)
+    go (DataLf u) = by-cond Is (eqb b 10) (λ _. no (Line First 0 u) refl) (λ _. no Dead refl)
+    go (Trail p j u) = by-cond Is (trailer .ends p && eqb b 13) (λ _. no (EndLf u) refl)
+        (λ _. no (Trail (trailer .next p b) (suc j) u) refl)
+    go (EndLf u) = by-cond Is (eqb b 10) (λ _. no (Done u) refl) (λ _. no Dead refl)
+    go (Done u) = no Dead refl
+    go Dead = no Dead refl
 
 module _ (room : ℕ) where
   pub no-room-found : {p : List ℕ} {t v w : ℕ} → AtDigit p t v w → room < t + w → Finds (noRoom room) p
@@ -91,7 +108,6 @@ module _ (room : ℕ) where
         reached = then (goes-chunks cs) (goes-line (l ++ (b ∷ [])) First 0 (length d) (rw z refl)) .ends
             ∙ ap (λ (q : LinePos). Line q (0 + length (l ++ (b ∷ []))) (length d)) z;
         alive = refl;
-        undone = refl;
         passed = lt-ltb room (length d + valueFrom 0 (l ++ (b ∷ []))) passes;
       }
 
@@ -127,11 +143,22 @@ module _ (room : ℕ) where
   unfolding Fits
   line-room q k t h = h
 
-  pub no-room-broken : (p : List ℕ) (b : ℕ) → Fits room (run step start p) → noRoom room (run step start (p ++ (b ∷ []))) ≡ true
+  -- bytes that never pass the room are within it
+  abbrev Before : List ℕ → Type 0
+  Before p = (i : ℕ) → i ≤ length p → noRoom room (run step start (take i p)) ≡ false
+
+  start-fits : Fits room start
+  unfolding Fits sizeOf
+  start-fits = omega arith
+
+  pub fits : (p : List ℕ) → Before p → Fits room (run step start p)
+  fits p before = run-keeps step (Fits room) (noRoom room) (keep-fits room) p start start-fits before
+
+  pub no-room-broken : (p : List ℕ) (b : ℕ) → Before p → noRoom room (run step start (p ++ (b ∷ []))) ≡ true
       → Broken room BODY_TOO_LARGE (p ++ (b ∷ []))
-  no-room-broken p b fits e =
+  no-room-broken p b before e =
       let w = at-size (run step start (p ++ (b ∷ []))) e in
       let z = step-size (run step start p) b (w .0) (w .1) (w .2) (sym (run-append step start p (b ∷ [])) ∙ w .3) in
       digit-broken (z .0) (z .1) (w .2) b (w .0) p (out step emit start p)
       (subst (λ (s : State). Past s p (out step emit start p)) (z .2) (past p))
-      (line-room (z .0) (z .1) (w .2) (subst (Fits room) (z .2) fits)) (z .3) (w .4)
+      (line-room (z .0) (z .1) (w .2) (subst (Fits room) (z .2) (fits p before))) (z .3) (w .4)

@@ -1,6 +1,6 @@
 -- What ties the machine for a part of a body to the grammar's name for that part. For any part.
-use mathlib.Core.Path.{_≡_, sym, _∙_, ap}
-use mathlib.Core.Bool.{Bool, true, false}
+use mathlib.Core.Path.{_≡_, refl, sym, _∙_, ap}
+use mathlib.Core.Bool.{true, false}
 use mathlib.Core.List.{List, [], _∷_, _++_}
 use Prim.Native.Nat.{ℕ}
 use Rattle.framing.specs.helpers.Scan.{Part, run}
@@ -38,3 +38,36 @@ module _ {P : Type 0} {Text : List ℕ → Type 0} (part : Part P) (reads : Read
   pub never-ends : {A : Type 0} (p : P) (xs : List ℕ) → part .alive p ≡ false → part .ends (at part p xs) ≡ true → A
   never-ends p xs h e =
       false-true (sym h ∙ run-live (part .next) (part .alive) (reads .dead) p xs (reads .ends-alive (at part p xs) e))
+
+-- a finer machine for the same part: it remembers something of the bytes that it has passed
+pub record Refines {P Q : Type 0} (fine : Part Q) (part : Part P) (place : Q → P) : Type 0 where
+  pub begin : place (fine .begin) ≡ part .begin
+  pub next : (q : Q) (b : ℕ) → place (fine .next q b) ≡ part .next (place q) b
+  pub ends : (q : Q) → fine .ends q ≡ part .ends (place q)
+  pub alive : (q : Q) → fine .alive q ≡ part .alive (place q)
+
+module _ {P Q : Type 0} (fine : Part Q) (part : Part P) (place : Q → P) (refines : Refines fine part place) where
+  at-place : (q : Q) (xs : List ℕ) → place (at fine q xs) ≡ at part (place q) xs
+  at-place q [] = refl
+  at-place q (b ∷ xs) = at-place (fine .next q b) xs ∙ ap (λ (p : P). at part p xs) (refines .next q b)
+
+  ends-at : (q : Q) (xs : List ℕ) → fine .ends (at fine q xs) ≡ part .ends (at part (place q) xs)
+  ends-at q xs = refines .ends (at fine q xs) ∙ ap (part .ends) (at-place q xs)
+
+  ends-begin : (xs : List ℕ) → fine .ends (at fine (fine .begin) xs) ≡ part .ends (at part (part .begin) xs)
+  ends-begin xs = ends-at (fine .begin) xs ∙ ap (λ (p : P). part .ends (at part p xs)) (refines .begin)
+
+  -- is tied to the grammar as the other is
+  pub refined : {Text : List ℕ → Type 0} → Reads Text part → Reads Text fine
+  refined reads = record {
+    sound = λ xs t. ends-begin xs ∙ reads .sound xs t;
+    complete = λ xs h. reads .complete xs (sym (ends-begin xs) ∙ h);
+    ends-alive = λ q h. refines .alive q ∙ reads .ends-alive (place q) (sym (refines .ends q) ∙ h);
+    finish = λ q h.
+        let f = reads .finish (place q) (sym (refines .alive q) ∙ h) in
+        (f .0, ends-at q (f .0) ∙ f .1);
+    dead = λ q b h.
+        refines .alive (fine .next q b)
+        ∙ ap (part .alive) (refines .next q b)
+        ∙ reads .dead (place q) b (sym (refines .alive q) ∙ h);
+  }

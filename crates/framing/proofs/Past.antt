@@ -19,7 +19,7 @@ use Rattle.framing.specs.Grammar.{Many, Chunk, Chunks, Body}
 use Rattle.framing.specs.helpers.Machine.{lineStep, lineEnds, trailer, leaveLine, enterChunk, step, emit, start}
 use Rattle.framing.specs.helpers.Scan.{run, out}
 use Rattle.framing.proofs.Scanning.{run-append}
-use Rattle.framing.proofs.Cases.{false-true, to-cond}
+use Rattle.framing.proofs.Cases.{to-cond}
 use Rattle.framing.proofs.Lines.{lineRun, line-complete}
 use Rattle.framing.proofs.Parts.{at}
 use Rattle.framing.proofs.Trails.{trailer-read}

@@ -1,5 +1,5 @@
 -- Quoted strings byte by byte: what the grammar of header values calls one is text and pairs, one after the other.
-use mathlib.Core.Path.{_≡_, refl, sym, _∙_, ap, subst}
+use mathlib.Core.Path.{_≡_, refl, sym, subst}
 use mathlib.Core.Bool.{Bool, true, false}
 use mathlib.Core.List.{List, [], _∷_, _++_}
 use mathlib.Core.Logic.{inl, inr}
@@ -8,8 +8,8 @@ use lib.Dec.{T, eqb}
 use borrow.Author.Tests.{eqb-true}
 use Rattle.octets.specs.Bytes.{text?, escaped?}
 use Rattle.octets.specs.Classes.{TEXT, ESCAPED}
-use Rattle.octets.specs.Quoted.{BACKSLASH, quoted-text}
-use Rattle.grammar.specs.Grammar.{Part, Grammar, Many, none, more, Parses, byte, _⨾_, _∣_, past}
+use Rattle.octets.specs.Quoted.{BACKSLASH}
+use Rattle.grammar.specs.Grammar.{Part, Many, none, more, Parses, byte, _⨾_, _∣_}
 use Rattle.grammar.proofs.Derivative.{T-true}
 use Rattle.framing.specs.Grammar.{Inside}
 

@@ -3,21 +3,15 @@ use mathlib.Core.Path.{_≡_, refl, sym, _∙_, ap}
 use mathlib.Core.Bool.{Bool, true, false, cond}
 use mathlib.Core.List.{List, [], _∷_}
 use mathlib.Core.Logic.{_⊎_, inl, inr}
-use mathlib.Core.Option.{Option, none, some}
-use Prim.Native.Nat.{ℕ, zero, suc, _<_, _≤_}
+use mathlib.Core.Option.{none, some}
+use Prim.Native.Nat.{ℕ, suc, _<_, _≤_}
 use native.Mathlib.Omega.{arith}
 use lib.Dec.{eqb}
 use lib.ListN.{length}
 use borrow.Author.Tests.{eqb-true, eq-eqb}
 use Rattle.framing.specs.Demand.{rank, Among}
 use Rattle.framing.specs.helpers.Scan.{first}
-use Rattle.framing.proofs.Cases.{false-true}
-
-clash : {A B : Type 0} {n : B} → none ≡ some n → A
-clash e = let z : _≡_ {A = ℕ} 0 1 = cc in absurd (omega arith)
-
-same-some : (n m : ℕ) → some n ≡ some m → n ≡ m
-same-some n m e = cc
+use Rattle.framing.proofs.Cases.{false-true, none-some, same-some}
 
 -- a rank below all says which limit it is
 pub same-rank : (ls : List ℕ) (n m : ℕ) → Among ls n → rank ls m ≡ rank ls n → m ≡ n
@@ -33,7 +27,7 @@ same-rank (l ∷ ls) n m a e = go (λ b f. same-rank ls n m b f) (eqb m l) (eqb 
 module _ (test : ℕ → Bool) where
   -- what is found is a limit, and passes
   pub first-passes : (ls : List ℕ) (n : ℕ) → first test ls ≡ some n → Among ls n × (test n ≡ true)
-  first-passes [] n e = clash e
+  first-passes [] n e = none-some e
   first-passes (l ∷ ls) n e = go (λ f. first-passes ls n f) (test l) refl
     where
       behind : (y : Bool) → Among ls n → cond y 0 (suc (rank ls n)) < suc (length ls)
@@ -68,7 +62,7 @@ module _ (test : ℕ → Bool) where
   first-none ls n e a = go (test n) refl
     where
       go : (x : Bool) → test n ≡ x → x ≡ false
-      go true p = let w = first-found ls n a p in clash (sym e ∙ w .1)
+      go true p = let w = first-found ls n a p in none-some (sym e ∙ w .1)
       go false p = refl
 
   -- and where none passes, none is found

@@ -1,5 +1,5 @@
 -- A state that breaks no limit is within the limits again; and what a larger room changes.
-use mathlib.Core.Path.{_≡_, refl, sym, _∙_}
+use mathlib.Core.Path.{_≡_, refl}
 use mathlib.Core.Bool.{Bool, true, false, _&&_, cond}
 use mathlib.Core.List.{List, [], _∷_}
 use mathlib.Core.Option.{Option, none, some}
@@ -8,17 +8,16 @@ use native.Mathlib.Omega.{arith}
 use lib.Dec.{eqb, ltb}
 use borrow.Author.Tests.{eqb-true, eqb-false, ltb-true, ltb-false, lt-ltb}
 use Rattle.octets.specs.Bytes.{hex?, octet?, hex-value}
-use Rattle.grammar.specs.Refusals.{LINE_TOO_LONG, TRAILER_TOO_LONG, BODY_TOO_LARGE}
+use Rattle.grammar.specs.Refusals.{BODY_TOO_LARGE}
 use Rattle.framing.specs.declared.LinePos.{LinePos}
 use Rattle.framing.specs.declared.LinePos.the-variants.{First, Size, Ext}
-use Rattle.framing.specs.declared.TrailPos.{TrailPos}
 use Rattle.framing.specs.declared.State.{State}
 use Rattle.framing.specs.declared.State.the-variants.{Line, LineFeed, Data, DataCr, DataLf, Trail, EndLf, Done, Dead}
 use Rattle.framing.specs.Grammar.{LINE_LIMIT, TRAILER_LIMIT}
 use Rattle.framing.specs.helpers.Machine.{extensions, lineStep, lineEnds, trailer}
-use Rattle.framing.specs.helpers.Machine.{leaveLine, enterChunk, step, longLine, longTrailer, pastRoom, noRoom, broke}
+use Rattle.framing.specs.helpers.Machine.{leaveLine, enterChunk, step, longLine, longTrailer, tooLong, pastRoom, noRoom, broke}
 use Rattle.framing.specs.helpers.Scan.{run}
-use Rattle.framing.proofs.Cases.{false-true, by-cond, to-cond}
+use Rattle.framing.proofs.Cases.{none-some, by-cond, to-cond}
 
 -- the size that a line has read so far
 unfoldable pub sizeOf : LinePos → ℕ
@@ -62,14 +61,11 @@ ShortTrailer (EndLf t) = Unit {0}
 ShortTrailer (Done t) = Unit {0}
 ShortTrailer Dead = Unit {0}
 
-no-limit : {A : Type 0} {n : ℕ} → none ≡ some n → A
-no-limit e = let z : _≡_ {A = ℕ} 0 1 = cc in absurd (omega arith)
-
 pub ends-size : (p : LinePos) (v : ℕ) → lineEnds p ≡ some v → sizeOf p ≡ v
 unfolding lineEnds sizeOf
-ends-size First v e = no-limit e
+ends-size First v e = none-some e
 ends-size (Size w) v e = cc
-ends-size (Ext w x) v e = by-cond (λ (o : Option ℕ). o ≡ some v) (extensions .ends x) (λ _ z. same z) (λ _ z. no-limit z) e
+ends-size (Ext w x) v e = by-cond (λ (o : Option ℕ). o ≡ some v) (extensions .ends x) (λ _ z. same z) (λ _ z. none-some z) e
   where
     same : some w ≡ some v → w ≡ v
     same z = cc
@@ -183,15 +179,11 @@ keep-trailer Dead b h = λ _. tt
 -- ## A larger room
 -- every other limit is the same there
 pub same : (r q n : ℕ) (s : State) → (n ≡ BODY_TOO_LARGE → ⊥) → broke q n s ≡ broke r n s
-same r q n s f = go (eqb n LINE_TOO_LONG) (eqb n TRAILER_TOO_LONG) (eqb n BODY_TOO_LARGE) refl
+same r q n s f = go (eqb n BODY_TOO_LARGE) refl
   where
-    go : (x y z : Bool) → eqb n BODY_TOO_LARGE ≡ z
-        → cond x (longLine s) (cond y (longTrailer s) (cond z (noRoom q s) false))
-        ≡ cond x (longLine s) (cond y (longTrailer s) (cond z (noRoom r s) false))
-    go true y z e = refl
-    go false true z e = refl
-    go false false true e = absurd (f (eqb-true n BODY_TOO_LARGE e))
-    go false false false e = refl
+    go : (x : Bool) → eqb n BODY_TOO_LARGE ≡ x → cond x (noRoom q s) (tooLong n s) ≡ cond x (noRoom r s) (tooLong n s)
+    go true e = absurd (f (eqb-true n BODY_TOO_LARGE e))
+    go false e = refl
 
 -- and what passes it passes each smaller one
 size-lifts : (r q v t : ℕ) → r ≤ q → ltb q (t + v) ≡ true → ltb r (t + v) ≡ true

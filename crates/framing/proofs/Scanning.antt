@@ -9,6 +9,7 @@ use native.Mathlib.Decide.{ℕ-discrete, decLt}
 use native.Mathlib.Omega.{arith}
 use lib.ListN.{length, take}
 use Rattle.framing.specs.helpers.Scan.{Found, going, stop, note, run, out, Quiet, scan}
+use Rattle.framing.proofs.Cases.{none-some}
 
 module _ {S : Type 0} (step : S → ℕ → S) where
   pub run-append : (s : S) (xs ys : List ℕ) → run step s (xs ++ ys) ≡ run step (run step s xs) ys
@@ -112,15 +113,12 @@ module _ {S J : Type 0} (step : S → ℕ → S) (judge : S → Option J) where
         subst (λ (k : ℕ). Stops s xs k v) z (t .2)
 
     -- ## and it decides what a scan finds
-    clash : {A : Type 0} {v : J} → none ≡ some v → A
-    clash e = let z : _≡_ {A = ℕ} 0 1 = cc in absurd (omega arith)
-
     pub quiet-going : Quiet step judge s xs (length xs) → scan step judge s 0 xs ≡ going
     quiet-going q = go (scan step judge s 0 xs) refl
       where
         go : (r : Found J) → scan step judge s 0 xs ≡ r → r ≡ going
         go going e = refl
-        go (stop j v) e = let t : Stops s xs j v = stop-stops j v e in clash (sym (q (suc j) (t .inside)) ∙ t .verdict)
+        go (stop j v) e = let t : Stops s xs j v = stop-stops j v e in none-some (sym (q (suc j) (t .inside)) ∙ t .verdict)
 
     pub stops-stop : (j : ℕ) (v : J) → Stops s xs j v → scan step judge s 0 xs ≡ stop j v
     stops-stop j v t = go (scan step judge s 0 xs) refl
@@ -131,11 +129,11 @@ module _ {S J : Type 0} (step : S → ℕ → S) (judge : S → Option J) where
             = subst (λ (m : ℕ). judge (run step s (take (suc m) xs)) ≡ some w) e (u .verdict) in
             let y : some w ≡ some v = sym x ∙ t .verdict in
             cc
-        at i w u (no e) (yes l) = clash (sym (t .quiet (suc i) l) ∙ u .verdict)
-        at i w u (no e) (no l) = clash (sym (u .quiet (suc j) (omega arith)) ∙ t .verdict)
+        at i w u (no e) (yes l) = none-some (sym (t .quiet (suc i) l) ∙ u .verdict)
+        at i w u (no e) (no l) = none-some (sym (u .quiet (suc j) (omega arith)) ∙ t .verdict)
 
         go : (r : Found J) → scan step judge s 0 xs ≡ r → r ≡ stop j v
-        go going e = clash (sym (going-quiet e (suc j) (t .inside)) ∙ t .verdict)
+        go going e = none-some (sym (going-quiet e (suc j) (t .inside)) ∙ t .verdict)
         go (stop i w) e = at i w (stop-stops i w e) (ℕ-discrete i j) (decLt i j)
 
   -- ## A verdict stands in every longer input

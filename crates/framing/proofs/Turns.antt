@@ -7,7 +7,7 @@ use native.Mathlib.Omega.{arith}
 use lib.Dec.{eqb, ltb}
 use borrow.Author.Tests.{eq-eqb, ne-eqb, lt-ltb, le-ltb, le-leb}
 use Rattle.octets.specs.Bytes.{hex?, hex-value}
-use Rattle.framing.specs.Grammar.{LINE_LIMIT, TRAILER_LIMIT}
+use Rattle.framing.specs.Grammar.{LINE_LIMIT, TRAILER_LIMIT, limits}
 use Rattle.framing.specs.declared.ExtPos.{ExtPos}
 use Rattle.framing.specs.declared.ExtPos.the-variants as ExtPos
 use Rattle.framing.specs.declared.LinePos.{LinePos}
@@ -16,8 +16,8 @@ use Rattle.framing.specs.declared.TrailPos.{TrailPos}
 use Rattle.framing.specs.declared.State.{State}
 use Rattle.framing.specs.declared.State.the-variants.{Line, LineFeed, Data, DataCr, DataLf, Trail, EndLf, Done, Dead}
 use Rattle.framing.specs.helpers.Machine.{extensions, lineStep, lineEnds, lineLive, trailer}
-use Rattle.framing.specs.helpers.Machine.{leaveLine, enterChunk, step, live, done, pastRoom, over}
-use Rattle.framing.specs.helpers.Scan.{ended, refusal, verdictOf}
+use Rattle.framing.specs.helpers.Machine.{leaveLine, enterChunk, step, live, done, pastRoom, machine, tell}
+use Rattle.framing.specs.helpers.Scan.{ended, refusal, verdictOf, over-by}
 use Rattle.framing.specs.Reading.{judge}
 use Rattle.framing.proofs.Cases.{to-cond}
 use Rattle.framing.proofs.Rooms.{sizeOf}
@@ -26,65 +26,65 @@ use Rattle.framing.proofs.Rooms.{sizeOf}
 module _ (room : ℕ) where
   pub dead-refused : (s : State) → live s ≡ false → judge room s ≡ some (refusal 1)
   unfolding judge
-  dead-refused s e = ap (λ (z : Bool). cond z (verdictOf (done s) (over room s)) (some (refusal 1))) e
+  dead-refused s e = ap (λ (z : Bool). cond z (verdictOf (over-by machine tell limits room s) (done s)) (some (refusal 1))) e
 
   pub no-more : judge room Dead ≡ some (refusal 1)
   no-more = dead-refused Dead (unfold live in refl)
 
   pub quiet-first : (t : ℕ) → judge room (Line First 0 t) ≡ none
-  unfolding judge live lineLive done over pastRoom
+  unfolding judge live lineLive done pastRoom
   quiet-first t = refl
 
   pub quiet-feed : (v t : ℕ) → judge room (LineFeed v t) ≡ none
-  unfolding judge live done over
+  unfolding judge live done
   quiet-feed v t = refl
 
   pub quiet-data : (m t : ℕ) → judge room (Data m t) ≡ none
-  unfolding judge live done over
+  unfolding judge live done
   quiet-data m t = refl
 
   pub quiet-data-cr : (t : ℕ) → judge room (DataCr t) ≡ none
-  unfolding judge live done over
+  unfolding judge live done
   quiet-data-cr t = refl
 
   pub quiet-data-lf : (t : ℕ) → judge room (DataLf t) ≡ none
-  unfolding judge live done over
+  unfolding judge live done
   quiet-data-lf t = refl
 
   pub quiet-trailer : (t : ℕ) → judge room (Trail (trailer .begin) 0 t) ≡ none
-  unfolding judge live done over
+  unfolding judge live done
   quiet-trailer t = refl
 
   pub quiet-end : (t : ℕ) → judge room (EndLf t) ≡ none
-  unfolding judge live done over
+  unfolding judge live done
   quiet-end t = refl
 
   pub ended-done : (t : ℕ) → judge room (Done t) ≡ some (ended (record { length = t }))
-  unfolding judge live done over
+  unfolding judge live done
   ended-done t = refl
 
   module _ (w k t : ℕ) where
     pub size-five : k ≡ suc LINE_LIMIT → judge room (Line (Size w) k t) ≡ some (refusal 5)
-    unfolding judge live lineLive done over
-    size-five e = ap (λ (z : Bool). verdictOf none (cond z (some 5) (cond (pastRoom room (Size w) t) (some 7) none))) (eq-eqb k (suc LINE_LIMIT) e)
+    unfolding judge live lineLive done
+    size-five e = ap (λ (z : Bool). verdictOf (cond z (some 5) (cond (pastRoom room (Size w) t) (some 7) none)) none) (eq-eqb k (suc LINE_LIMIT) e)
 
-    by-room : (k ≡ suc LINE_LIMIT → ⊥) → judge room (Line (Size w) k t) ≡ verdictOf none (cond (ltb room (t + w)) (some 7) none)
-    unfolding judge live lineLive done over pastRoom
-    by-room e = ap (λ (z : Bool). verdictOf none (cond z (some 5) (cond (ltb room (t + w)) (some 7) none))) (ne-eqb k (suc LINE_LIMIT) e)
+    by-room : (k ≡ suc LINE_LIMIT → ⊥) → judge room (Line (Size w) k t) ≡ verdictOf (cond (ltb room (t + w)) (some 7) none) none
+    unfolding judge live lineLive done pastRoom
+    by-room e = ap (λ (z : Bool). verdictOf (cond z (some 5) (cond (ltb room (t + w)) (some 7) none)) none) (ne-eqb k (suc LINE_LIMIT) e)
 
     pub size-seven : (k ≡ suc LINE_LIMIT → ⊥) → room < t + w → judge room (Line (Size w) k t) ≡ some (refusal 7)
-    size-seven e r = by-room e ∙ ap (λ (z : Bool). verdictOf none (cond z (some 7) none)) (lt-ltb room (t + w) r)
+    size-seven e r = by-room e ∙ ap (λ (z : Bool). verdictOf (cond z (some 7) none) none) (lt-ltb room (t + w) r)
 
     pub size-quiet : (k ≡ suc LINE_LIMIT → ⊥) → t + w ≤ room → judge room (Line (Size w) k t) ≡ none
-    size-quiet e r = by-room e ∙ ap (λ (z : Bool). verdictOf none (cond z (some 7) none)) (le-ltb room (t + w) r)
+    size-quiet e r = by-room e ∙ ap (λ (z : Bool). verdictOf (cond z (some 7) none) none) (le-ltb room (t + w) r)
 
   -- a live position in a line that is short and gives a size within the room
   pub line-quiet : (p : LinePos) (k t : ℕ) → lineLive p ≡ true → k ≤ LINE_LIMIT → t + sizeOf p ≤ room → judge room (Line p k t) ≡ none
-  unfolding judge live done over
+  unfolding judge live done
   line-quiet p k t a short fits =
-      ap (λ (z : Bool). cond z (verdictOf none (cond (eqb k (suc LINE_LIMIT)) (some 5) (within (pastRoom room p t)))) (some (refusal 1))) a
-      ∙ ap (λ (z : Bool). verdictOf none (cond z (some 5) (within (pastRoom room p t)))) (ne-eqb k (suc LINE_LIMIT) (λ e. absurd (omega arith)))
-      ∙ ap (λ (z : Bool). verdictOf none (within z)) (go p fits)
+      ap (λ (z : Bool). cond z (verdictOf (cond (eqb k (suc LINE_LIMIT)) (some 5) (within (pastRoom room p t))) none) (some (refusal 1))) a
+      ∙ ap (λ (z : Bool). verdictOf (cond z (some 5) (within (pastRoom room p t))) none) (ne-eqb k (suc LINE_LIMIT) (λ e. absurd (omega arith)))
+      ∙ ap (λ (z : Bool). verdictOf (within z) none) (go p fits)
     where
       within : Bool → Option ℕ
       within z = cond z (some 7) none
@@ -98,29 +98,29 @@ module _ (room : ℕ) where
     pub ext-dead : extensions .alive e ≡ false → judge room (Line (Ext v e) k t) ≡ some (refusal 1)
     ext-dead h = dead-refused (Line (Ext v e) k t) (unfold live lineLive in h)
 
-    by-length : extensions .alive e ≡ true → judge room (Line (Ext v e) k t) ≡ verdictOf none (cond (eqb k (suc LINE_LIMIT)) (some 5) none)
-    unfolding judge live lineLive done over pastRoom
-    by-length h = ap (λ (z : Bool). cond z (verdictOf none (cond (eqb k (suc LINE_LIMIT)) (some 5) none)) (some (refusal 1))) h
+    by-length : extensions .alive e ≡ true → judge room (Line (Ext v e) k t) ≡ verdictOf (cond (eqb k (suc LINE_LIMIT)) (some 5) none) none
+    unfolding judge live lineLive done pastRoom
+    by-length h = ap (λ (z : Bool). cond z (verdictOf (cond (eqb k (suc LINE_LIMIT)) (some 5) none) none) (some (refusal 1))) h
 
     pub ext-five : extensions .alive e ≡ true → k ≡ suc LINE_LIMIT → judge room (Line (Ext v e) k t) ≡ some (refusal 5)
-    ext-five h n = by-length h ∙ ap (λ (z : Bool). verdictOf none (cond z (some 5) none)) (eq-eqb k (suc LINE_LIMIT) n)
+    ext-five h n = by-length h ∙ ap (λ (z : Bool). verdictOf (cond z (some 5) none) none) (eq-eqb k (suc LINE_LIMIT) n)
 
     pub ext-quiet : extensions .alive e ≡ true → (k ≡ suc LINE_LIMIT → ⊥) → judge room (Line (Ext v e) k t) ≡ none
-    ext-quiet h n = by-length h ∙ ap (λ (z : Bool). verdictOf none (cond z (some 5) none)) (ne-eqb k (suc LINE_LIMIT) n)
+    ext-quiet h n = by-length h ∙ ap (λ (z : Bool). verdictOf (cond z (some 5) none) none) (ne-eqb k (suc LINE_LIMIT) n)
 
   module _ (p : TrailPos) (k t : ℕ) where
     pub trail-dead : trailer .alive p ≡ false → judge room (Trail p k t) ≡ some (refusal 1)
     trail-dead h = dead-refused (Trail p k t) (unfold live in h)
 
-    by-count : trailer .alive p ≡ true → judge room (Trail p k t) ≡ verdictOf none (cond (eqb k (suc TRAILER_LIMIT)) (some 6) none)
-    unfolding judge live done over
-    by-count h = ap (λ (z : Bool). cond z (verdictOf none (cond (eqb k (suc TRAILER_LIMIT)) (some 6) none)) (some (refusal 1))) h
+    by-count : trailer .alive p ≡ true → judge room (Trail p k t) ≡ verdictOf (cond (eqb k (suc TRAILER_LIMIT)) (some 6) none) none
+    unfolding judge live done
+    by-count h = ap (λ (z : Bool). cond z (verdictOf (cond (eqb k (suc TRAILER_LIMIT)) (some 6) none) none) (some (refusal 1))) h
 
     pub trail-six : trailer .alive p ≡ true → k ≡ suc TRAILER_LIMIT → judge room (Trail p k t) ≡ some (refusal 6)
-    trail-six h n = by-count h ∙ ap (λ (z : Bool). verdictOf none (cond z (some 6) none)) (eq-eqb k (suc TRAILER_LIMIT) n)
+    trail-six h n = by-count h ∙ ap (λ (z : Bool). verdictOf (cond z (some 6) none) none) (eq-eqb k (suc TRAILER_LIMIT) n)
 
     pub trail-quiet : trailer .alive p ≡ true → (k ≡ suc TRAILER_LIMIT → ⊥) → judge room (Trail p k t) ≡ none
-    trail-quiet h n = by-count h ∙ ap (λ (z : Bool). verdictOf none (cond z (some 6) none)) (ne-eqb k (suc TRAILER_LIMIT) n)
+    trail-quiet h n = by-count h ∙ ap (λ (z : Bool). verdictOf (cond z (some 6) none) none) (ne-eqb k (suc TRAILER_LIMIT) n)
 
 -- ## Steps
 module _ (b : ℕ) where
@@ -128,7 +128,7 @@ module _ (b : ℕ) where
   pub first-other : (k t : ℕ) → hex? b ≡ false → live (step (Line First k t) b) ≡ false
   unfolding step live lineLive lineStep lineEnds leaveLine
   first-other k t h = to-cond (λ (s : State). live s ≡ false) (eqb b 13) (λ _. refl)
-      (λ _. ap (λ (z : Bool). lineLive (cond z (Size (0 * 16 + hex-value b)) (Ext 0 ExtPos.Bad))) h)
+      (λ _. ap (λ (z : Bool). lineLive (cond z (Size (0 * 16 + hex-value b)) (Ext 0 ExtPos.Dead))) h)
 
   pub line-step : (p : LinePos) (k t : ℕ) → (b ≡ 13 → ⊥) → step (Line p k t) b ≡ Line (lineStep p b) (suc k) t
   unfolding step
@@ -140,7 +140,7 @@ module _ (b : ℕ) where
 
   pub first-digit : hex? b ≡ true → lineStep First b ≡ Size (0 * 16 + hex-value b)
   unfolding lineStep
-  first-digit h = ap (λ (z : Bool). cond z (Size (0 * 16 + hex-value b)) (Ext 0 ExtPos.Bad)) h
+  first-digit h = ap (λ (z : Bool). cond z (Size (0 * 16 + hex-value b)) (Ext 0 ExtPos.Dead)) h
 
   pub more-digit : (v : ℕ) → hex? b ≡ true → lineStep (Size v) b ≡ Size (v * 16 + hex-value b)
   unfolding lineStep

@@ -29,6 +29,7 @@ abbrev pub rank : List ℕ → ℕ → ℕ
 rank [] n = 0
 rank (l ∷ ls) n = cond (eqb n l) 0 (suc (rank ls n))
 
+-- n is one of the limits: its rank is below their number
 abbrev pub Among : List ℕ → ℕ → Type 0
 Among limits n = rank limits n < length limits
 
@@ -47,13 +48,13 @@ module _ {W : Type 0} (f : Format W) (room : ℕ) where
   abbrev pub Unbroken : List ℕ → ℕ → Type 0
   Unbroken s n = (m i : ℕ) → Among (f .limits) m → i < n → f .Broken room m (take (suc i) s) → ⊥
 
-  -- a beginning of s is a body with the joined data d, w is to be told of it, and it breaks no limit
+  -- the first `count` bytes of s are a body with the joined data d, w is to be told of it, and they break no limit
   pub record BeginsWhole (s : List ℕ) (w : W) (d : List ℕ) : Type 0 where
-    pub bytes : ℕ
-    pub inside : bytes ≤ length s
-    pub body : f .Body (take bytes s) d
-    pub tells : f .Tells w (take bytes s) d
-    pub unbroken : Unbroken s bytes
+    pub count : ℕ
+    pub inside : count ≤ length s
+    pub body : f .Body (take count s) d
+    pub tells : f .Tells w (take count s) d
+    pub unbroken : Unbroken s count
 
   -- a body may begin with all of s
   pub record Unfinished (s : List ℕ) : Type 0 where
@@ -81,20 +82,20 @@ module _ {W : Type 0} (f : Format W) (room : ℕ) where
     pub lowest : (m : ℕ) → rank (f .limits) m < rank (f .limits) n → f .Broken room m (take (suc p) s) → ⊥
 
 -- document 01: "No refusal writes into a lent buffer", nor does "more"
-abbrev pub nothing : List ℕ → List ℕ
-nothing xs = []
+abbrev pub Nothing : List ℕ → List ℕ → Type 0
+Nothing p d = d ≡ []
 
--- a reader in each room, with the data that it writes, which does what is asked on every input; `early` is what it writes of the bytes
--- that it accepted where these are not a whole body
-pub record Decodes {W : Type 0} (f : Format W) (early : List ℕ → List ℕ) (decode : ℕ → List ℕ → Answer W)
+-- a reader in each room, with the data that it writes, which does what is asked on every input; `Early p d`: d is to be written of the
+-- bytes p that it accepted, where these are not a whole body
+pub record Decodes {W : Type 0} (f : Format W) (Early : List ℕ → List ℕ → Type 0) (decode : ℕ → List ℕ → Answer W)
     (decoded : ℕ → List ℕ → List ℕ) : Type 0 where
   pub whole : (r : ℕ) (s : List ℕ) (w : W) → (decode r s ≡ Answer.whole w) ↔ ((d : List ℕ) × BeginsWhole f r s w d)
   pub more : (r : ℕ) (s : List ℕ) → (decode r s ≡ Answer.more) ↔ Unfinished f r s
   pub malformed : (r : ℕ) (s : List ℕ) (p : ℕ) → (decode r s ≡ Answer.refused MALFORMED p) ↔ Malformed f r s p
   pub limit : (r : ℕ) (s : List ℕ) (n p : ℕ) → (n ≡ MALFORMED → ⊥) → (decode r s ≡ Answer.refused n p) ↔ Over f r s n p
   pub writes : (r : ℕ) (s : List ℕ) (w : W) (d : List ℕ) → BeginsWhole f r s w d → decoded r s ≡ d
-  pub keeps-more : (r : ℕ) (s : List ℕ) → decode r s ≡ Answer.more → decoded r s ≡ early s
-  pub keeps-refused : (r : ℕ) (s : List ℕ) (n p : ℕ) → decode r s ≡ Answer.refused n p → decoded r s ≡ early (take p s)
+  pub keeps-more : (r : ℕ) (s : List ℕ) → decode r s ≡ Answer.more → Early s (decoded r s)
+  pub keeps-refused : (r : ℕ) (s : List ℕ) (n p : ℕ) → decode r s ≡ Answer.refused n p → Early (take p s) (decoded r s)
   pub stands : (r : ℕ) (s t : List ℕ) → (decode r s ≡ Answer.more → ⊥)
       → (decode r (s ++ t) ≡ decode r s) × (decoded r (s ++ t) ≡ decoded r s)
   pub roomier : (r q : ℕ) (s : List ℕ) → r ≤ q → ((p : ℕ) → decode r s ≡ Answer.refused BODY_TOO_LARGE p → ⊥)

@@ -8,25 +8,25 @@ use lib.ListN.{length, drop}
 use Rattle.framing.specs.declared.Whole.{Whole}
 use Rattle.framing.specs.declared.State.{State}
 use Rattle.framing.specs.Answer.{Answer}
-use Rattle.framing.specs.Demand.{nothing}
-use Rattle.framing.specs.helpers.Scan.{Verdict, Found, judgeBy, scan, out, answer, written}
-use Rattle.framing.specs.helpers.Machine.{End, step, emit, live, done, over, tell, start}
+use Rattle.framing.specs.Grammar.{limits}
+use Rattle.framing.specs.helpers.Scan.{Verdict, Found, nothing, judge-by, find-by, decode-by, decoded-by}
+use Rattle.framing.specs.helpers.Machine.{End, machine, tell}
 
 -- the verdict on the byte that led to a state
 unfoldable pub judge : ℕ → State → Option (Verdict End)
-judge room s = judgeBy (live s) (done s) (over room s)
+judge room s = judge-by machine tell limits room s
 
 -- the first verdict on these bytes
 unfoldable pub found : ℕ → List ℕ → Found (Verdict End)
-found room xs = scan step (judge room) start 0 xs
+found room xs = find-by machine tell limits room xs
 
 -- the answer
 unfoldable pub decode : ℕ → List ℕ → Answer Whole
-decode room xs = answer tell (found room xs)
+decode room xs = decode-by machine tell limits room xs
 
 -- the data that it writes
 unfoldable pub decoded : ℕ → List ℕ → List ℕ
-decoded room xs = written nothing (out step emit start) (found room xs) xs
+decoded room xs = decoded-by machine tell limits room nothing xs
 
 -- the lent bytes after the answer: the data at the front, then what stood there
 unfoldable pub decode-output : List ℕ → List ℕ → List ℕ

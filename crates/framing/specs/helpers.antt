@@ -1,3 +1,5 @@
 -- For the contracts of helpers and for proofs. Nothing here has to be believed.
+pub mod Extensions
 pub mod Machine
 pub mod Scan
+pub mod Trailer

@@ -1,4 +1,4 @@
-// Chunked bodies: the positions in a body at which a reader may stand. Their grammar, limits and demands are in specs/ and proofs/.
+// Chunked bodies: where a reader may stand in one, and what is told of a whole one. Grammar, limits and demands are in specs/ and proofs/.
 
 // The most bytes of a chunk line, and of the trailer.
 pub const LINE_LIMIT: usize = 1024;
@@ -7,14 +7,19 @@ pub const TRAILER_LIMIT: usize = 8192;
 
 // Where the extensions of a chunk line stand.
 pub enum ExtPos {
+    // before the first one, or behind the closing quote of one
     Between,
-    Name0,
+    // behind `;`
+    NameStart,
     Name,
-    Value0,
+    // behind `=`
+    ValueStart,
     Token,
     Quoted,
+    // behind a backslash in quotes
     Pair,
-    Bad,
+    // no extension goes on from here
+    Dead,
 }
 
 // Where a chunk line stands: before its first digit, after digits, behind them. `value` is that of the digits so far.
@@ -26,11 +31,14 @@ pub enum LinePos {
 
 // Where trailer lines stand.
 pub enum TrailPos {
-    Start,
-    Field,
-    Content,
-    Feed,
-    Wrong,
+    // behind the line before, or where the trailer begins
+    LineStart,
+    Name,
+    Value,
+    // behind the CR of a line
+    Lf,
+    // no trailer goes on from here
+    Dead,
 }
 
 // Where a body stands. `length` counts the bytes so far of the line or the trailer, `size` is what the line gave, `left` the bytes of the

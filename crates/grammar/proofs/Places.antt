@@ -11,7 +11,7 @@ use lib.Seq.{take-take, length-take-le}
 use Rattle.grammar.specs.Grammar.{Part, Parses}
 use Rattle.grammar.specs.Beginnings.{Live}
 use Rattle.grammar.specs.helpers.Derivative.{live, residual}
-use Rattle.grammar.specs.Reading.{Limit, Rules, parts-before, SoFar, Passes, Breaks, Stays}
+use Rattle.grammar.specs.Reading.{Limit, Rules, parts-before, SoFar, Breaks, Stays}
 use Rattle.grammar.specs.helpers.Judge.{held}
 use Rattle.grammar.specs.helpers.Checks.{fresh?}
 use Rattle.grammar.proofs.Derivative.{residual-means}

@@ -1,7 +1,7 @@
 -- The parts of a well-formed tag: the primary one, then subtags.
 use Prim.Native.Nat.{ℕ, zero, suc}
 use mathlib.Core.Path.{refl, sym, ap, subst, _∙_}
-use mathlib.Core.List.{List, [], _∷_, _++_}
+use mathlib.Core.List.{List, _∷_, _++_}
 use Rattle.grammar.specs.Grammar.{Part, empty, byte, _⨾_, part, up-to, Parses, Many, none, more}
 use Rattle.grammar.proofs.Plain.{Plain, plain-empty, plain-byte, plain-seq, plain-either, behind-plain, plain-part, both-parts}
 use Rattle.octets.specs.Classes.{LETTER}

@@ -17,7 +17,6 @@ use Rattle.numerals.proofs.Digits.{split, at-true, at-false}
 use Rattle.copying.proofs.Runs.{Front, front-on, front-even}
 use Rattle.lines.specs.Grammar.{DIGIT_LIMIT}
 use Rattle.lines.specs.helpers.Pairs.{pairs}
-use Rattle.lines.specs.declared.Hex.{Hex}
 use Rattle.lines.specs.declared.Hex.the-variants.{Bytes, Bad}
 use Rattle.lines.specs.Reading.{byte-before, bytes-of, within-room, spelled, hex-answer, hex-output}
 

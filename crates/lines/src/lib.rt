@@ -1,7 +1,7 @@
 // Lines of hexadecimal, for the programs: a line gathered from pieces of an input, and its digits as bytes.
 ghost use mathlib.Core.Path.{_≡_};
 ghost use mathlib.Core.Bool.{true};
-ghost use Prim.Native.Nat.{_*_, min};
+ghost use Prim.Native.Nat.{_*_};
 ghost use lib.ListN.{length};
 ghost use Rattle.octets.specs.Bytes.{hex?};
 ghost use Rattle.numerals.specs.Numeral.{every};

@@ -8,9 +8,9 @@ use Rattle.calendar.specs.Gregorian.{leap?, days-of-years, date?, time?}
 use Rattle.calendar.specs.Instants.{seconds-of}
 use Rattle.date.specs.Grammar.{full-year, fault-of}
 use Rattle.url.specs.Bytes.{host?, unreserved?, path?, query?}
-use Rattle.framing.specs.helpers.Machine.{lineStep, lineLive, lineEnds, leaveLine, enterChunk, step, live, done, pastRoom, over}
+use Rattle.framing.specs.helpers.Machine.{lineStep, lineLive, lineEnds, leaveLine, enterChunk, step, live, done, pastRoom}
 use Rattle.framing.specs.helpers.Scan.{answer}
-use Rattle.framing.specs.Reading.{judge, found, decode}
+use Rattle.framing.specs.Reading.{judge, decode}
 use Rattle.marked.specs.Cases.{Case, All, table}
 
 pub versions : All (take 3 table)
@@ -30,7 +30,7 @@ unfolding lower digit? letter? hex? host? unreserved? path? query?
 urls = (refl, tt)
 
 pub bodies : All (drop 10 table)
-unfolding digit? hex? token? lineStep lineLive lineEnds leaveLine enterChunk step live done pastRoom over answer judge found decode
+unfolding digit? hex? token? lineStep lineLive lineEnds leaveLine enterChunk step live done pastRoom answer judge decode
 bodies = (refl, (refl, tt))
 
 pub both : (xs ys : List Case) → All xs → All ys → All (xs ++ ys)

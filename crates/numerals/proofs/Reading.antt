@@ -1,21 +1,19 @@
 -- Decimal numerals read back: where one stands in a text, reading the digits there gives its number.
-use Prim.Native.Nat.{ℕ, zero, suc, _+_, _-_, _*_, _≤_, _<_}
+use Prim.Native.Nat.{ℕ, _+_, _-_, _*_, _≤_, _<_}
 use native.Mathlib.Omega.{arith}
-use borrow.Author.Tests.{le-ltb, le-leb, lt-leb, leb-true, ne-eqb}
+use borrow.Author.Tests.{le-ltb, le-leb, ne-eqb}
 use mathlib.Core.Path.{_≡_, refl, sym, ap, _∙_}
-use mathlib.Core.Bool.{Bool, true, false, cond, _&&_, true≢false}
-use mathlib.Core.List.{List, [], _∷_, _++_, append-nil}
-use mathlib.Core.Option.{Option, none}
-use lib.Dec.{ltb, leb}
-use lib.ListN.{length, drop}
+use mathlib.Core.Bool.{Bool, true, false, _&&_, true≢false}
+use mathlib.Core.List.{List, [], _∷_, _++_}
+use mathlib.Core.Option.{none}
+use lib.ListN.{length}
 use lib.Seq.{drop-at}
 use Rattle.octets.specs.Bytes.{digit?, hex-value}
 use Rattle.octets.specs.Numbers.{grow, number-after, number}
-use Rattle.octets.proofs.Bytes.{digit-low, digit-high}
-use Rattle.octets.proofs.Spans.{by-range}
+use Rattle.octets.proofs.Bytes.{digit-high}
 use Rattle.scans.specs.declared.Decimal.the-variants.{Number}
 use Rattle.scans.specs.helpers.Runs.{run}
-use Rattle.scans.specs.helpers.Decimals.{passing, number-from, decimal-of, decimal-at}
+use Rattle.scans.specs.helpers.Decimals.{passing, decimal-of, decimal-at}
 use Rattle.numerals.specs.Numeral.{glyph, numeral, value-from, every}
 use Rattle.numerals.proofs.Demands.{digits-only, some-digit, value}
 use Rattle.numerals.proofs.Digits.{glyph-below}

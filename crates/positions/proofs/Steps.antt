@@ -4,7 +4,8 @@ use mathlib.Core.Bool.{Bool, cond}
 use Prim.Native.Nat.{ℕ}
 use Rattle.framing.specs.declared.ExtPos.{ExtPos}
 use Rattle.framing.specs.declared.TrailPos.{TrailPos}
-use Rattle.framing.specs.helpers.Machine.{extStep, trailStep}
+use Rattle.framing.specs.helpers.Extensions.{extStep}
+use Rattle.framing.specs.helpers.Trailer.{trailStep}
 
 -- what `pick_ext` and `pick_trail` promise, with a known test and a known other choice
 pub pick : {A : Type 0} (a : A) {r q b : A} {t u : Bool} → t ≡ u → q ≡ b → r ≡ cond t a q → r ≡ cond u a b

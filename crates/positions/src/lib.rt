@@ -2,7 +2,8 @@
 ghost use mathlib.Core.Path.{_≡_};
 ghost use mathlib.Core.Bool.{cond, _&&_};
 ghost use lib.Dec.{eqb};
-ghost use Rattle.framing.specs.helpers.Machine.{extStep, extEnds, extLive, trailStep, trailEnds, trailLive};
+ghost use Rattle.framing.specs.helpers.Extensions.{extStep, extEnds, extLive};
+ghost use Rattle.framing.specs.helpers.Trailer.{trailStep, trailEnds, trailLive};
 ghost use Rattle.positions.specs.helpers.Ends.{cr-byte};
 use framing::ExtPos;
 use framing::TrailPos;
@@ -11,38 +12,38 @@ use framing::TrailPos;
 pub fn ext_step(pos: ExtPos, byte: u8) -> ExtPos
     ensures { λ r. ⌜ r ≡ extStep pos byte ⌝ }
 {
-    let bad = ExtPos::Bad;
+    let dead = ExtPos::Dead;
     match pos {
-        ExtPos::Between => pick_ext(byte == b';', ExtPos::Name0, bad),
-        ExtPos::Name0 => pick_ext(octets::is_token(byte), ExtPos::Name, bad),
+        ExtPos::Between => pick_ext(byte == b';', ExtPos::NameStart, dead),
+        ExtPos::NameStart => pick_ext(octets::is_token(byte), ExtPos::Name, dead),
         ExtPos::Name => {
-            let other = pick_ext(byte == b';', ExtPos::Name0, bad);
+            let other = pick_ext(byte == b';', ExtPos::NameStart, dead);
             pick_ext(
                 octets::is_token(byte),
                 ExtPos::Name,
-                pick_ext(byte == b'=', ExtPos::Value0, other),
+                pick_ext(byte == b'=', ExtPos::ValueStart, other),
             )
         }
-        ExtPos::Value0 => pick_ext(
+        ExtPos::ValueStart => pick_ext(
             octets::is_token(byte),
             ExtPos::Token,
-            pick_ext(byte == b'"', ExtPos::Quoted, bad),
+            pick_ext(byte == b'"', ExtPos::Quoted, dead),
         ),
         ExtPos::Token => pick_ext(
             octets::is_token(byte),
             ExtPos::Token,
-            pick_ext(byte == b';', ExtPos::Name0, bad),
+            pick_ext(byte == b';', ExtPos::NameStart, dead),
         ),
         ExtPos::Quoted => {
-            let other = pick_ext(byte == b'"', ExtPos::Between, bad);
+            let other = pick_ext(byte == b'"', ExtPos::Between, dead);
             pick_ext(
                 octets::is_text(byte),
                 ExtPos::Quoted,
                 pick_ext(byte == b'\\', ExtPos::Pair, other),
             )
         }
-        ExtPos::Pair => pick_ext(octets::is_escaped(byte), ExtPos::Quoted, bad),
-        ExtPos::Bad => bad,
+        ExtPos::Pair => pick_ext(octets::is_escaped(byte), ExtPos::Quoted, dead),
+        ExtPos::Dead => dead,
     }
 }
 
@@ -52,29 +53,29 @@ pub fn ext_ends(pos: ExtPos) -> bool
 {
     match pos {
         ExtPos::Between => true,
-        ExtPos::Name0 => false,
+        ExtPos::NameStart => false,
         ExtPos::Name => true,
-        ExtPos::Value0 => false,
+        ExtPos::ValueStart => false,
         ExtPos::Token => true,
         ExtPos::Quoted => false,
         ExtPos::Pair => false,
-        ExtPos::Bad => false,
+        ExtPos::Dead => false,
     }
 }
 
-// May any byte follow there?
+// Can extensions go on from there to their end?
 pub fn ext_live(pos: ExtPos) -> bool
     ensures { λ r. ⌜ r ≡ extLive pos ⌝ }
 {
     match pos {
         ExtPos::Between => true,
-        ExtPos::Name0 => true,
+        ExtPos::NameStart => true,
         ExtPos::Name => true,
-        ExtPos::Value0 => true,
+        ExtPos::ValueStart => true,
         ExtPos::Token => true,
         ExtPos::Quoted => true,
         ExtPos::Pair => true,
-        ExtPos::Bad => false,
+        ExtPos::Dead => false,
     }
 }
 
@@ -82,34 +83,34 @@ pub fn ext_live(pos: ExtPos) -> bool
 pub fn trail_step(pos: TrailPos, byte: u8) -> TrailPos
     ensures { λ r. ⌜ r ≡ trailStep pos byte ⌝ }
 {
-    let wrong = TrailPos::Wrong;
+    let dead = TrailPos::Dead;
     match pos {
-        TrailPos::Start => pick_trail(octets::is_token(byte), TrailPos::Field, wrong),
-        TrailPos::Field => pick_trail(
+        TrailPos::LineStart => pick_trail(octets::is_token(byte), TrailPos::Name, dead),
+        TrailPos::Name => pick_trail(
             octets::is_token(byte),
-            TrailPos::Field,
-            pick_trail(byte == b':', TrailPos::Content, wrong),
+            TrailPos::Name,
+            pick_trail(byte == b':', TrailPos::Value, dead),
         ),
-        TrailPos::Content => pick_trail(
+        TrailPos::Value => pick_trail(
             octets::is_content(byte),
-            TrailPos::Content,
-            pick_trail(byte == b'\r', TrailPos::Feed, wrong),
+            TrailPos::Value,
+            pick_trail(byte == b'\r', TrailPos::Lf, dead),
         ),
-        TrailPos::Feed => pick_trail(byte == b'\n', TrailPos::Start, wrong),
-        TrailPos::Wrong => wrong,
+        TrailPos::Lf => pick_trail(byte == b'\n', TrailPos::LineStart, dead),
+        TrailPos::Dead => dead,
     }
 }
 
-// The same of the trailer.
+// Can a trailer go on from there to its end?
 pub fn trail_live(pos: TrailPos) -> bool
     ensures { λ r. ⌜ r ≡ trailLive pos ⌝ }
 {
     match pos {
-        TrailPos::Start => true,
-        TrailPos::Field => true,
-        TrailPos::Content => true,
-        TrailPos::Feed => true,
-        TrailPos::Wrong => false,
+        TrailPos::LineStart => true,
+        TrailPos::Name => true,
+        TrailPos::Value => true,
+        TrailPos::Lf => true,
+        TrailPos::Dead => false,
     }
 }
 
@@ -118,11 +119,11 @@ pub fn closes(pos: TrailPos, byte: u8) -> bool
     ensures { λ r. ⌜ r ≡ trailEnds pos && eqb byte cr-byte ⌝ }
 {
     match pos {
-        TrailPos::Start => byte == b'\r',
-        TrailPos::Field => false,
-        TrailPos::Content => false,
-        TrailPos::Feed => false,
-        TrailPos::Wrong => false,
+        TrailPos::LineStart => byte == b'\r',
+        TrailPos::Name => false,
+        TrailPos::Value => false,
+        TrailPos::Lf => false,
+        TrailPos::Dead => false,
     }
 }
 

@@ -140,7 +140,7 @@ unfolding said-answer
 answer-short r s (whole w) h e =
     let b = Framing.whole r s w .0 e .1 in
     two-short (bytes "C ") (w .taken) (w .length) refl (omega (arith, b .inside, Framing.taken r s b))
-    (omega (arith, b .inside, b .tells .joined, body-data (b .body), length-take-le (b .bytes) s (b .inside)))
+    (omega (arith, b .inside, b .tells .joined, body-data (b .body), length-take-le (b .count) s (b .inside)))
 answer-short r s more h e = omega arith
 answer-short r s (refused n p) h e = split (eqb n 1)
     (λ t. let f : decode r s ≡ refused 1 p = subst (λ (m : ℕ). decode r s ≡ refused m p) (eqb-true n 1 t) e in

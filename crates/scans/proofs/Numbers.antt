@@ -12,7 +12,7 @@ use lib.Seq.{drop-cons}
 use Rattle.octets.specs.Bytes.{digit?}
 use Rattle.octets.specs.Numbers.{grow, number-after}
 use Rattle.scans.specs.declared.Decimal.{Decimal}
-use Rattle.scans.specs.declared.Decimal.the-variants.{Number, Above}
+use Rattle.scans.specs.declared.Decimal.the-variants.{Above}
 use Rattle.scans.specs.helpers.Runs.{run, run-end}
 use Rattle.scans.specs.helpers.Decimals.{later, passing, number-from, decimal-of, decimal-at}
 

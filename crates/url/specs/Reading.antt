@@ -1,4 +1,4 @@
--- Document 01's numbers and values for each case of the answers.
+-- Document 01's numbers and values for each case of the answer.
 use Rattle.grammar.specs.Reading as G
 use Rattle.grammar.specs.Reading.{Verdict}
 use Rattle.url.specs.declared.Url.{Url}

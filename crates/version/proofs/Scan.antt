@@ -1,26 +1,26 @@
 -- The reader's scans against the grammar: the name, the major number, the point, the minor number, the end.
-use Prim.Native.Nat.{ℕ, suc, _+_, _≤_, _<_}
+use Prim.Native.Nat.{ℕ, _+_, _≤_, _<_}
 use Prim.Native.Char.{code}
 use native.Mathlib.Omega.{arith}
-use borrow.Author.Tests.{ne-eqb, eq-eqb, lt-ltb, le-ltb, ltb-false}
-use mathlib.Core.Path.{_≡_, refl, sym, ap, ap₂, _∙_}
+use borrow.Author.Tests.{ne-eqb, eq-eqb, ltb-false}
+use mathlib.Core.Path.{_≡_, refl, ap, ap₂, _∙_}
 use mathlib.Core.Bool.{Bool, true, false, cond, _||_}
 use mathlib.Core.List.{List, [], _∷_, _++_}
 use mathlib.Core.Option.{none, some}
-use lib.Dec.{ltb, eqb}
-use lib.ListN.{length, getD, drop}
-use Rattle.grammar.specs.Grammar.{Part, Grammar, void, empty, byte, part, plus, just, lower}
-use Rattle.grammar.specs.helpers.Derivative.{deriv, then}
-use Rattle.grammar.specs.Reading.{above, Verdict, value, refused}
+use lib.Dec.{ltb}
+use lib.ListN.{length, getD}
+use Rattle.grammar.specs.Grammar.{Part, void, empty, byte, part, plus, just}
+use Rattle.grammar.specs.helpers.Derivative.{deriv}
+use Rattle.grammar.specs.Reading.{above, value, refused}
 use Rattle.grammar.specs.helpers.Checks.{ahead}
 use Rattle.grammar.specs.helpers.Judge.{header}
 use Rattle.grammar.specs.helpers.Scans.{slice, from}
 use Rattle.grammar.proofs.Shapes.{byte-step}
 use Rattle.grammar.proofs.Loop.{header-short}
-use Rattle.grammar.proofs.Scans.{Run, first-is, first-not, first-none, ends-well, goes-too-far}
+use Rattle.grammar.proofs.Scans.{first-is, first-not, first-none, ends-well, goes-too-far}
 use Rattle.octets.specs.Bytes.{digit?}
 use Rattle.octets.specs.Classes.{DIGIT}
-use Rattle.octets.specs.Numbers.{number, number-limit}
+use Rattle.octets.specs.Numbers.{number}
 use Rattle.octets.proofs.Bytes.{digit-low}
 use Rattle.scans.specs.declared.Decimal.the-variants.{Number, Above, Missing}
 use Rattle.scans.specs.helpers.Words.{agreeing}
@@ -28,7 +28,7 @@ use Rattle.scans.specs.helpers.Decimals.{decimal-at}
 use Rattle.scans.proofs.Runs.{run-is}
 use Rattle.scans.proofs.Scans.{number-of, number-fits, number-reads, number-missing, number-passes, number-limits, word-reads}
 use Rattle.scans.proofs.Words.{word-whole, word-inside}
-use Rattle.version.specs.Grammar.{Name, major, minor, http, numbers, version, largest, rules}
+use Rattle.version.specs.Grammar.{Name, major, minor, http, numbers, largest, rules}
 use Rattle.version.specs.helpers.Scan.{point-and-minor, major-part, AfterMajor}
 
 -- no digit begins what follows the major number

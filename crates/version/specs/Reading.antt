@@ -1,4 +1,4 @@
--- Document 01's numbers and values for each case of the answers; the order of versions; the versions that have names.
+-- Document 01's numbers and values for each case of the answer; the order of versions; the versions that have names.
 use Prim.Native.Nat.{ℕ}
 use mathlib.Core.Bool.{cond}
 use lib.Dec.{ltb}

@@ -5,7 +5,7 @@ use borrow.Author.Tests.{not-true, not-false}
 use mathlib.Core.Path.{_≡_, sym, _∙_, ap}
 use Prim.Native.Nat.{_-_}
 use lib.ListN.{length, getD}
-use Rattle.framing.specs.helpers.Machine.{extStep, extLive}
+use Rattle.framing.specs.helpers.Machine.{extensions}
 use Rattle.chunked.proofs.Passes.{at-more, last-more, last-refused}
 use Rattle.chunked.proofs.Lines.{InExt, ext-start, ext-ended, ext-line, ext-unended, ext-wrong, ext-long, ext-on}
 use Rattle.chunked.proofs.extensions.Statement.{statement}
@@ -32,11 +32,11 @@ line-feed-requires c κs =
 
 -- is the position behind the byte live
 alive : (c : tie.After-ext-live Inv-loop μ-loop)
-    → extLive (extStep (c .before .before .before .before .before .loop .pos)
+    → extensions .alive (extensions .next (c .before .before .before .before .before .loop .pos)
     (getD (c .before .before .before .before .before .before .before .args .input .now)
     (c .before .before .before .before .before .loop .at) 0))
     ≡ c .ext-live .result
-alive c = sym (ap extLive (c .before .ext-step .ensures)) ∙ sym (c .ext-live .ensures)
+alive c = sym (ap (extensions .alive) (c .before .ext-step .ensures)) ∙ sym (c .ext-live .ensures)
 
 returns-2 : tie.Need-returns-2 Inv-loop μ-loop
 returns-2 c =

@@ -5,7 +5,7 @@ use Prim.Native.Nat.{_-_, _≤_}
 use mathlib.Core.Path.{_≡_, sym, _∙_, ap}
 use borrow.Author.Tests.{not-true, not-false}
 use lib.ListN.{length, getD}
-use Rattle.framing.specs.helpers.Machine.{trailStep, trailLive}
+use Rattle.framing.specs.helpers.Machine.{trailer}
 use Rattle.framing.specs.declared.State.the-variants.{Trail}
 use Rattle.chunked.specs.helpers.Passes.{At}
 use Rattle.chunked.proofs.Passes.{at-more, last-more, last-refused}
@@ -30,11 +30,11 @@ close-requires c κs =
 
 -- is the position behind the byte live
 alive : (c : tie.After-trail-live Inv-loop μ-loop)
-    → trailLive (trailStep (c .before .before .before .before .before .before .loop .pos)
+    → trailer .alive (trailer .next (c .before .before .before .before .before .before .loop .pos)
     (getD (c .before .before .before .before .before .before .before .before .args .input .now)
     (c .before .before .before .before .before .before .loop .at) 0))
     ≡ c .trail-live .result
-alive c = sym (ap trailLive (c .before .trail-step .ensures)) ∙ sym (c .trail-live .ensures)
+alive c = sym (ap (trailer .alive) (c .before .trail-step .ensures)) ∙ sym (c .trail-live .ensures)
 
 returns-2 : tie.Need-returns-2 Inv-loop μ-loop
 returns-2 c =

@@ -1,6 +1,6 @@
 -- `ffi::written_fields` meets its contract.
 use borrow.Author.Needs.{needs}
-use mathlib.Core.Path.{sym, ap, _∙_}
+use mathlib.Core.Path.{sym, ap}
 use Rattle.octets.specs.declared.Written.{Written}
 use Rattle.octets.specs.Writing.{written}
 use Rattle.ffi.specs.Fields.{written-fields}

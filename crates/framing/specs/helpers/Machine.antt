@@ -6,59 +6,22 @@ use Prim.Native.Nat.{ℕ, zero, suc, _+_, _*_}
 use Prim.Native.Char.{code}
 use lib.Dec.{ltb, eqb}
 use Rattle.grammar.specs.Refusals.{LINE_TOO_LONG, TRAILER_TOO_LONG, BODY_TOO_LARGE}
-use Rattle.octets.specs.Bytes.{octet?, hex?, hex-value, token?, text?, escaped?, content?}
-use Rattle.framing.specs.Grammar.{LINE_LIMIT, TRAILER_LIMIT, limits}
-use Rattle.framing.specs.helpers.Scan.{Part, Machine, first}
-use Rattle.framing.specs.declared.ExtPos.{ExtPos}
+use Rattle.octets.specs.Bytes.{octet?, hex?, hex-value}
+use Rattle.framing.specs.Grammar.{LINE_LIMIT, TRAILER_LIMIT}
+use Rattle.framing.specs.helpers.Scan.{Machine}
+-- the two parts of a body that have a machine of their own; all else takes them by these names
+pub use Rattle.framing.specs.helpers.Extensions.{extensions}
+pub use Rattle.framing.specs.helpers.Trailer.{trailer}
 use Rattle.framing.specs.declared.ExtPos.the-variants as ExtPos
 use Rattle.framing.specs.declared.LinePos.{LinePos}
 use Rattle.framing.specs.declared.LinePos.the-variants.{First, Size, Ext}
-use Rattle.framing.specs.declared.TrailPos.{TrailPos}
-use Rattle.framing.specs.declared.TrailPos.the-variants.{Start, Field, Content, Feed, Wrong}
 use Rattle.framing.specs.declared.Whole.{Whole}
 use Rattle.framing.specs.declared.State.{State}
 use Rattle.framing.specs.declared.State.the-variants.{Line, LineFeed, Data, DataCr, DataLf, Trail, EndLf, Done, Dead}
 
--- ## Extensions: after a whole one, in a name, in a value
-abbrev pub extStep : ExtPos → ℕ → ExtPos
-extStep ExtPos.Between b = cond (eqb b (code ";")) ExtPos.Name0 ExtPos.Bad
-extStep ExtPos.Name0 b = cond (token? b) ExtPos.Name ExtPos.Bad
-extStep ExtPos.Name b =
-    cond (token? b) ExtPos.Name (cond (eqb b (code "=")) ExtPos.Value0 (cond (eqb b (code ";")) ExtPos.Name0 ExtPos.Bad))
-extStep ExtPos.Value0 b = cond (token? b) ExtPos.Token (cond (eqb b (code "\"")) ExtPos.Quoted ExtPos.Bad)
-extStep ExtPos.Token b = cond (token? b) ExtPos.Token (cond (eqb b (code ";")) ExtPos.Name0 ExtPos.Bad)
-extStep ExtPos.Quoted b =
-    cond (text? b) ExtPos.Quoted (cond (eqb b (code "\\")) ExtPos.Pair (cond (eqb b (code "\"")) ExtPos.Between ExtPos.Bad))
-extStep ExtPos.Pair b = cond (escaped? b) ExtPos.Quoted ExtPos.Bad
-extStep ExtPos.Bad b = ExtPos.Bad
-
--- may the line end here
-abbrev pub extEnds : ExtPos → Bool
-extEnds ExtPos.Between = true
-extEnds ExtPos.Name0 = false
-extEnds ExtPos.Name = true
-extEnds ExtPos.Value0 = false
-extEnds ExtPos.Token = true
-extEnds ExtPos.Quoted = false
-extEnds ExtPos.Pair = false
-extEnds ExtPos.Bad = false
-
-abbrev pub extLive : ExtPos → Bool
-extLive ExtPos.Between = true
-extLive ExtPos.Name0 = true
-extLive ExtPos.Name = true
-extLive ExtPos.Value0 = true
-extLive ExtPos.Token = true
-extLive ExtPos.Quoted = true
-extLive ExtPos.Pair = true
-extLive ExtPos.Bad = false
-
-abbrev pub extensions : Part ExtPos
-extensions = record { begin = ExtPos.Between; next = extStep; ends = extEnds; alive = extLive }
-
 -- ## A chunk line, its CR left out
 unfoldable pub lineStep : LinePos → ℕ → LinePos
-lineStep First b = cond (hex? b) (Size (0 * 16 + hex-value b)) (Ext 0 ExtPos.Bad)
+lineStep First b = cond (hex? b) (Size (0 * 16 + hex-value b)) (Ext 0 ExtPos.Dead)
 lineStep (Size v) b = cond (hex? b) (Size (v * 16 + hex-value b)) (Ext v (extensions .next (extensions .begin) b))
 lineStep (Ext v e) b = Ext v (extensions .next e b)
 
@@ -73,35 +36,8 @@ lineEnds First = none
 lineEnds (Size v) = some v
 lineEnds (Ext v e) = cond (extensions .ends e) (some v) none
 
--- ## Trailer lines, the closing CR LF left out
-abbrev pub trailStep : TrailPos → ℕ → TrailPos
-trailStep Start b = cond (token? b) Field Wrong
-trailStep Field b = cond (token? b) Field (cond (eqb b (code ":")) Content Wrong)
-trailStep Content b = cond (content? b) Content (cond (eqb b (code "\r")) Feed Wrong)
-trailStep Feed b = cond (eqb b (code "\n")) Start Wrong
-trailStep Wrong b = Wrong
-
-abbrev pub trailLive : TrailPos → Bool
-trailLive Start = true
-trailLive Field = true
-trailLive Content = true
-trailLive Feed = true
-trailLive Wrong = false
-
-abbrev pub trailEnds : TrailPos → Bool
-trailEnds Start = true
-trailEnds Field = false
-trailEnds Content = false
-trailEnds Feed = false
-trailEnds Wrong = false
-
-abbrev pub trailer : Part TrailPos
-trailer = record { begin = Start; next = trailStep; ends = trailEnds; alive = trailLive }
-
 -- ## The body
--- Line p k t: in a chunk line at p, after k bytes of it, with t bytes of data in the chunks before.
--- LineFeed v t: after the CR of a line that gives v. Data m t: in data, m bytes after the next one; t has the whole chunk.
--- DataCr, DataLf: before the CR, the LF after data. Trail p k t: in the trailer at p, after k bytes of it. EndLf: before the last LF.
+-- what each case of State holds is said in src/lib.rt
 
 unfoldable pub leaveLine : Option ℕ → ℕ → State
 leaveLine none t = Dead
@@ -205,15 +141,12 @@ noRoom room (EndLf t) = false
 noRoom room (Done t) = false
 noRoom room Dead = false
 
--- by number
-abbrev pub broke : ℕ → ℕ → State → Bool
-broke room n s =
-    cond (eqb n LINE_TOO_LONG) (longLine s)
-    (cond (eqb n TRAILER_TOO_LONG) (longTrailer s) (cond (eqb n BODY_TOO_LARGE) (noRoom room s) false))
+-- by number: those that no room changes, then all
+abbrev pub tooLong : ℕ → State → Bool
+tooLong n s = cond (eqb n LINE_TOO_LONG) (longLine s) (cond (eqb n TRAILER_TOO_LONG) (longTrailer s) false)
 
--- the one of the lowest rank
-unfoldable pub over : ℕ → State → Option ℕ
-over room s = first (λ n. broke room n s) limits
+abbrev pub broke : ℕ → ℕ → State → Bool
+broke room n s = cond (eqb n BODY_TOO_LARGE) (noRoom room s) (tooLong n s)
 
 abbrev pub start : State
 start = Line First 0 0

@@ -9,7 +9,7 @@ use lib.ListN.{take}
 use Rattle.grammar.specs.Refusals.{MALFORMED}
 use Rattle.framing.specs.Answer.{Answer, whole, more, refused}
 
--- A machine for a part of a body: where it begins, and whether the part may end at a position
+-- a machine for a part of a body: where it begins, its step, where the part may end, and where it can still be completed
 pub record Part (P : Type 0) : Type 0 where
   pub begin : P
   pub next : P → ℕ → P
@@ -38,15 +38,15 @@ abbrev pub first : (ℕ → Bool) → List ℕ → Option ℕ
 first test [] = none
 first test (n ∷ ls) = cond (test n) (some n) (first test ls)
 
--- a live state: the body's end, then a broken limit
-abbrev pub verdictOf : {E : Type 0} → Option E → Option ℕ → Option (Verdict E)
-verdictOf (some e) o = some (ended e)
-verdictOf none (some n) = some (refusal n)
+-- a live state: a broken limit, then the body's end
+abbrev pub verdictOf : {E : Type 0} → Option ℕ → Option E → Option (Verdict E)
+verdictOf (some n) done = some (refusal n)
+verdictOf none (some e) = some (ended e)
 verdictOf none none = none
 
 -- a state, by whether it is live, which body ended there, and which limit the byte that led to it broke
 abbrev pub judgeBy : {E : Type 0} → Bool → Option E → Option ℕ → Option (Verdict E)
-judgeBy live done over = cond live (verdictOf done over) (some (refusal MALFORMED))
+judgeBy live done over = cond live (verdictOf over done) (some (refusal MALFORMED))
 
 -- no verdict to the end of the input, or one at a place
 pub data Found (J : Type 0) : Type 0 where
@@ -89,6 +89,10 @@ unfoldable pub written : {E : Type 0} → (List ℕ → List ℕ) → (List ℕ 
 written early dataOf going xs = early xs
 written early dataOf (stop i (ended e)) xs = dataOf (take (suc i) xs)
 written early dataOf (stop i (refusal n)) xs = early (take i xs)
+
+-- of no bytes anything
+abbrev pub nothing : List ℕ → List ℕ
+nothing xs = []
 
 -- a reader of bodies: a machine, what it tells of a whole body, its limits in their order at one byte, and the room
 module _ {E S W : Type 0} (machine : Machine E S) (tell : ℕ → E → W) (limits : List ℕ) (room : ℕ) where

@@ -16,21 +16,21 @@ returns-2 : tie.Need-returns-2
 returns-2 c =
     let s = c .before .before .before .before .args in
     pick ExtPos.Name (c .before .is-token .ensures) refl (c .pick-ext2 .ensures)
-    ∙ ext-at ExtPos.Name0 (s .pos) (s .byte) (c .before .before .enum-told2 .given .1)
+    ∙ ext-at ExtPos.NameStart (s .pos) (s .byte) (c .before .before .enum-told2 .given .1)
 
 returns-3 : tie.Need-returns-3
 returns-3 c =
     let n = c .before .before .before in
     let s = n .before .before .before .args in
     pick ExtPos.Name (c .before .before .is-token2 .ensures)
-    (pick ExtPos.Value0 {t = eqb (s .byte) 61} refl (n .pick-ext3 .ensures) (c .before .pick-ext4 .ensures)) (c .pick-ext5 .ensures)
+    (pick ExtPos.ValueStart {t = eqb (s .byte) 61} refl (n .pick-ext3 .ensures) (c .before .pick-ext4 .ensures)) (c .pick-ext5 .ensures)
     ∙ ext-at ExtPos.Name (s .pos) (s .byte) (n .before .enum-told3 .given .1)
 
 returns-4 : tie.Need-returns-4
 returns-4 c =
     let s = c .before .before .before .before .before .args in
     pick ExtPos.Token (c .before .before .is-token3 .ensures) (c .before .pick-ext6 .ensures) (c .pick-ext7 .ensures)
-    ∙ ext-at ExtPos.Value0 (s .pos) (s .byte) (c .before .before .before .enum-told4 .given .1)
+    ∙ ext-at ExtPos.ValueStart (s .pos) (s .byte) (c .before .before .before .enum-told4 .given .1)
 
 returns-5 : tie.Need-returns-5
 returns-5 c =

@@ -9,25 +9,25 @@ use Rattle.positions.proofs.trail_step.Tie as tie
 returns : tie.Need-returns
 returns c =
     let s = c .before .before .before .before .args in
-    pick TrailPos.Field (c .before .is-token .ensures) refl (c .pick-trail .ensures)
-    ∙ trail-at TrailPos.Start (s .pos) (s .byte) (c .before .before .enum-told .given .1)
+    pick TrailPos.Name (c .before .is-token .ensures) refl (c .pick-trail .ensures)
+    ∙ trail-at TrailPos.LineStart (s .pos) (s .byte) (c .before .before .enum-told .given .1)
 
 returns-2 : tie.Need-returns-2
 returns-2 c =
     let s = c .before .before .before .before .before .args in
-    pick TrailPos.Field (c .before .before .is-token2 .ensures) (c .before .pick-trail2 .ensures) (c .pick-trail3 .ensures)
-    ∙ trail-at TrailPos.Field (s .pos) (s .byte) (c .before .before .before .enum-told2 .given .1)
+    pick TrailPos.Name (c .before .before .is-token2 .ensures) (c .before .pick-trail2 .ensures) (c .pick-trail3 .ensures)
+    ∙ trail-at TrailPos.Name (s .pos) (s .byte) (c .before .before .before .enum-told2 .given .1)
 
 returns-3 : tie.Need-returns-3
 returns-3 c =
     let s = c .before .before .before .before .before .args in
-    pick TrailPos.Content (c .before .before .is-content .ensures) (c .before .pick-trail4 .ensures) (c .pick-trail5 .ensures)
-    ∙ trail-at TrailPos.Content (s .pos) (s .byte) (c .before .before .before .enum-told3 .given .1)
+    pick TrailPos.Value (c .before .before .is-content .ensures) (c .before .pick-trail4 .ensures) (c .pick-trail5 .ensures)
+    ∙ trail-at TrailPos.Value (s .pos) (s .byte) (c .before .before .before .enum-told3 .given .1)
 
 returns-4 : tie.Need-returns-4
 returns-4 c =
     let s = c .before .before .before .args in
-    c .pick-trail6 .ensures ∙ trail-at TrailPos.Feed (s .pos) (s .byte) (c .before .enum-told4 .given .1)
+    c .pick-trail6 .ensures ∙ trail-at TrailPos.Lf (s .pos) (s .byte) (c .before .enum-told4 .given .1)
 
 pub trail-step-spec : {M : Type 1} → statement M
 trail-step-spec =
