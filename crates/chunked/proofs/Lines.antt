@@ -16,9 +16,8 @@ use Rattle.framing.specs.Grammar.{LINE_LIMIT, TRAILER_LIMIT}
 use Rattle.framing.specs.declared.ExtPos.{ExtPos}
 use Rattle.framing.specs.declared.LinePos.{LinePos}
 use Rattle.framing.specs.declared.LinePos.the-variants.{First, Size, Ext}
-use Rattle.framing.specs.declared.TrailPos.{TrailPos}
 use Rattle.framing.specs.declared.State.the-variants.{Line, LineFeed, Data, Trail, EndLf}
-use Rattle.framing.specs.helpers.Machine.{extensions, lineStep, lineEnds, trailer, step, live, tell}
+use Rattle.framing.specs.helpers.Machine.{extensions, lineStep, lineEnds, TrailerAt, trailer, step, live, tell}
 use Rattle.framing.specs.Reading.{decode}
 use Rattle.framing.proofs.Cases.{false-true}
 use Rattle.framing.proofs.Scanning.{run-append}
@@ -229,6 +228,14 @@ module _ {room : ℕ} {xs : List ℕ} {i t : ℕ} where
             read = read-on xs i k (h .starts) lt (h .read) (h .steps lt);
           }
 
+-- the byte at k, in the trailer at i, leads to the position q
+pub record Into (room : ℕ) (xs : List ℕ) (q : TrailerAt) (i t k : ℕ) : Type 0 where
+  pub starts : i ≤ k
+  pub inside : k < length xs
+  pub before : TrailerAt
+  pub at : At room xs (Trail before (k - i) t) k
+  pub steps : step (Trail before (k - i) t) (getD xs k 0) ≡ Trail q (suc (k - i)) t
+
 module _ {room : ℕ} {xs : List ℕ} where
   -- ## Behind the CR of a line
   module _ {v t k : ℕ} (at : At room xs (LineFeed v t) k) (lt : k < length xs) where
@@ -258,28 +265,32 @@ module _ {room : ℕ} {xs : List ℕ} where
       let z : 0 ≡ i - i = omega arith in
       subst (λ (n : ℕ). At room xs (Trail (trailer .begin) n t) i) z at
 
-  module _ {t : ℕ} {p : TrailPos} {k : ℕ} (i : ℕ) (starts : i ≤ k) (at : At room xs (Trail p (k - i) t) k) (lt : k < length xs) where
-    abbrev q : TrailPos
-    q = trailer .next p (getD xs k 0)
+  pub trail-closed : {t k n : ℕ} {p : TrailerAt} → At room xs (Trail p n t) k → k < length xs
+      → (trailer .ends p && eqb (getD xs k 0) 13) ≡ true → At room xs (EndLf t) (k + 1)
+  trail-closed {t} {k} {n} {p} at lt h = at-next at lt (Turns.trail-close (getD xs k 0) p n t h) (Turns.quiet-end room t)
 
-    pub trail-closed : (trailer .ends p && eqb (getD xs k 0) 13) ≡ true → At room xs (EndLf t) (k + 1)
-    trail-closed h = at-next at lt (Turns.trail-close (getD xs k 0) p (k - i) t h) (Turns.quiet-end room t)
+  pub trail-into : {t k : ℕ} {p q : TrailerAt} (i : ℕ) → i ≤ k → At room xs (Trail p (k - i) t) k → k < length xs
+      → (trailer .ends p && eqb (getD xs k 0) 13) ≡ false → q ≡ trailer .next p (getD xs k 0) → Into room xs q i t k
+  trail-into {t} {k} {p} i starts at lt unclosed e = record {
+    starts = starts;
+    inside = lt;
+    before = p;
+    at = at;
+    steps = Turns.trail-step (getD xs k 0) p (k - i) t unclosed ∙ ap (λ (z : TrailerAt). Trail z (suc (k - i)) t) (sym e);
+  }
 
-    module _ (unclosed : (trailer .ends p && eqb (getD xs k 0) 13) ≡ false) where
-      trail-step : step (Trail p (k - i) t) (getD xs k 0) ≡ Trail q (suc (k - i)) t
-      trail-step = Turns.trail-step (getD xs k 0) p (k - i) t unclosed
+  module _ {q : TrailerAt} {i t k : ℕ} (into : Into room xs q i t k) where
+    pub trail-wrong : trailer .alive q ≡ false → Framing.refused 1 k ≡ decode room xs
+    trail-wrong f = at-refuse (into .at) (into .inside) (into .steps) (Turns.trail-dead room q (suc (k - i)) t f)
 
-      pub trail-wrong : trailer .alive q ≡ false → Framing.refused 1 k ≡ decode room xs
-      trail-wrong f = at-refuse at lt trail-step (Turns.trail-dead room q (suc (k - i)) t f)
+    pub trail-long : trailer .alive q ≡ true → k - i ≡ TRAILER_LIMIT → Framing.refused 6 k ≡ decode room xs
+    trail-long f z = at-refuse (into .at) (into .inside) (into .steps) (Turns.trail-six room q (suc (k - i)) t f (omega arith))
 
-      pub trail-long : trailer .alive q ≡ true → k - i ≡ TRAILER_LIMIT → Framing.refused 6 k ≡ decode room xs
-      trail-long f z = at-refuse at lt trail-step (Turns.trail-six room q (suc (k - i)) t f (omega arith))
-
-      pub trail-on : trailer .alive q ≡ true → (k - i ≡ TRAILER_LIMIT → ⊥) → At room xs (Trail q (k + 1 - i) t) (k + 1)
-      trail-on f short =
-          let z : suc (k - i) ≡ k + 1 - i = omega arith in
-          subst (λ (n : ℕ). At room xs (Trail q n t) (k + 1)) z
-          (at-next at lt trail-step (Turns.trail-quiet room q (suc (k - i)) t f (λ y. short (omega arith))))
+    pub trail-on : trailer .alive q ≡ true → (k - i ≡ TRAILER_LIMIT → ⊥) → At room xs (Trail q (k + 1 - i) t) (k + 1)
+    trail-on f short =
+        let z : suc (k - i) ≡ k + 1 - i = omega (arith, into .starts) in
+        subst (λ (n : ℕ). At room xs (Trail q n t) (k + 1)) z
+        (at-next (into .at) (into .inside) (into .steps) (Turns.trail-quiet room q (suc (k - i)) t f (λ y. short (omega arith))))
 
   module _ {t k : ℕ} (at : At room xs (EndLf t) k) (lt : k < length xs) where
     pub close-refused : (getD xs k 0 ≡ 10 → ⊥) → Framing.refused 1 k ≡ decode room xs

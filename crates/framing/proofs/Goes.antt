@@ -10,13 +10,12 @@ use lib.ListN.{length, length-append, replicate, length-replicate}
 use borrow.Author.Tests.{eqb-true}
 use Rattle.framing.specs.declared.LinePos.{LinePos}
 use Rattle.framing.specs.declared.LinePos.the-variants.{First}
-use Rattle.framing.specs.declared.TrailPos.{TrailPos}
 use Rattle.framing.specs.declared.State.{State}
 use Rattle.framing.specs.declared.State.the-variants.{Line, LineFeed, Data, DataCr, DataLf, Trail, EndLf, Done, Dead}
 use Rattle.framing.specs.Grammar as G
 use Rattle.octets.specs.Bytes.{octet?, hex?}
 use Rattle.framing.specs.Grammar.{Many, Trailer, Chunk, Chunks, Body}
-use Rattle.framing.specs.helpers.Machine.{lineStep, lineEnds, lineLive, trailer}
+use Rattle.framing.specs.helpers.Machine.{lineStep, lineEnds, lineLive, TrailerAt, trailer}
 use Rattle.framing.specs.helpers.Machine.{leaveLine, enterChunk, step, emit, live, start}
 use Rattle.framing.specs.helpers.Scan.{run, out}
 use Rattle.framing.proofs.Scanning.{run-append, out-append, run-live}
@@ -159,7 +158,7 @@ goes-chunks (G.more {c = c} {d = d} {e = e} {x = x} cs h) =
     (then (goes-chunks cs) (goes-chunk (length d) h))
 
 -- ## In the trailer
-step-trail : (p : TrailPos) (b k t : ℕ) → trailer .alive (trailer .next p b) ≡ true
+step-trail : (p : TrailerAt) (b k t : ℕ) → trailer .alive (trailer .next p b) ≡ true
     → step (Trail p k t) b ≡ Trail (trailer .next p b) (suc k) t
 unfolding step
 step-trail p b k t h = go (trailer .ends p) (eqb b 13) refl refl
@@ -170,11 +169,11 @@ step-trail p b k t h = go (trailer .ends p) (eqb b 13) refl refl
     go true false e f = refl
     go false y e f = refl
 
-emit-trail : (p : TrailPos) (b k t : ℕ) → emit (Trail p k t) b ≡ []
+emit-trail : (p : TrailerAt) (b k t : ℕ) → emit (Trail p k t) b ≡ []
 unfolding emit
 emit-trail p b k t = refl
 
-pub goes-trail : (l : List ℕ) (p : TrailPos) (k t : ℕ) → trailer .alive (at trailer p l) ≡ true
+pub goes-trail : (l : List ℕ) (p : TrailerAt) (k t : ℕ) → trailer .alive (at trailer p l) ≡ true
     → Goes (Trail p k t) l [] (Trail (at trailer p l) (k + length l) t)
 goes-trail [] p k t h = record { ends = ap (λ (n : ℕ). Trail p n t) (omega arith); gives = refl }
 goes-trail (b ∷ l) p k t h =
@@ -183,7 +182,7 @@ goes-trail (b ∷ l) p k t h =
     (subst (λ (n : ℕ). Goes (Trail (trailer .next p b) (suc k) t) l [] (Trail (at trailer (trailer .next p b) l) n t)) (omega arith)
     (goes-trail l (trailer .next p b) (suc k) t h))
 
-trail-cr : (p : TrailPos) (k t : ℕ) → trailer .ends p ≡ true → step (Trail p k t) 13 ≡ EndLf t
+trail-cr : (p : TrailerAt) (k t : ℕ) → trailer .ends p ≡ true → step (Trail p k t) 13 ≡ EndLf t
 unfolding step
 trail-cr p k t e = ap (λ (x : Bool). cond (x && true) (EndLf t) (Trail (trailer .next p 13) (suc k) t)) e
 
@@ -198,7 +197,7 @@ emit-end t b = refl
 pub goes-end : (t : ℕ) → Goes (EndLf t) (10 ∷ []) [] (Done t)
 goes-end t = byte (EndLf t) 10 (end-lf t) (emit-end t 10) (stay (Done t))
 
-pub goes-close : (p : TrailPos) (k t : ℕ) → trailer .ends p ≡ true → Goes (Trail p k t) (13 ∷ 10 ∷ []) [] (Done t)
+pub goes-close : (p : TrailerAt) (k t : ℕ) → trailer .ends p ≡ true → Goes (Trail p k t) (13 ∷ 10 ∷ []) [] (Done t)
 goes-close p k t e = byte (Trail p k t) 13 (trail-cr p k t e) (emit-trail p 13 k t) (goes-end t)
 
 pub goes-last-line : {l : List ℕ} (t : ℕ) → G.Line l 0 → Goes (Line First 0 t) (l ++ (13 ∷ 10 ∷ [])) [] (Trail (trailer .begin) 0 t)
@@ -228,7 +227,7 @@ pub record Finish (s : State) : Type 0 where
 before : {s s′ : State} {xs d : List ℕ} → Goes s xs d s′ → Finish s′ → Finish s
 before {xs = xs} {d = d} g f = record { rest = xs ++ f .rest; data′ = d ++ f .data′; total = f .total; goes = then g (f .goes) }
 
-finish-trail : (p : TrailPos) (k t : ℕ) → trailer .alive p ≡ true → Finish (Trail p k t)
+finish-trail : (p : TrailerAt) (k t : ℕ) → trailer .alive p ≡ true → Finish (Trail p k t)
 finish-trail p k t h =
     let f : (u : List ℕ) × (trailer .ends (at trailer p u) ≡ true) = trailer-read .finish p h in
     before (goes-trail (f .0) p k t (trailer-read .ends-alive (at trailer p (f .0)) (f .1))) (record {

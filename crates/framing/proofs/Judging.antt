@@ -17,18 +17,18 @@ use Rattle.framing.specs.Demand.{Among}
 use Rattle.framing.specs.Grammar as G
 use Rattle.framing.specs.Grammar.{Body, Tells, Broken, chunked}
 use Rattle.framing.specs.helpers.Machine.{End, step, emit, live, lineLive, done, tell, longLine, longTrailer, pastRoom, noRoom}
-use Rattle.framing.specs.helpers.Machine.{broke, start, machine}
+use Rattle.framing.specs.helpers.Machine.{tests, testOf, broke, start, machine}
 use Rattle.framing.specs.helpers.Scan.{judgeBy, first, run, out, Quiet}
-use Rattle.framing.proofs.Cases.{false-true, none-some, by-cond, never}
+use Rattle.framing.proofs.Cases.{false-true, none-some, by-cond, to-cond, never}
 use Rattle.framing.proofs.Scanning.{run-keeps}
-use Rattle.framing.proofs.Ranks.{first-none, none-first}
+use Rattle.framing.proofs.Ranks.{Each, first-none, none-first}
 use Rattle.framing.proofs.Machines.{Laws, judge, judged-none}
 use Rattle.framing.proofs.Goes.{goes-body, Finish, finish, dead}
 use Rattle.framing.proofs.Past.{Ended, Past, past}
 use Rattle.framing.proofs.Rooms.{Fits, ShortLine, ShortTrailer, keep-line, keep-trailer}
-use Rattle.framing.proofs.Finds.{Finds, finds}
-use Rattle.framing.proofs.LongLine.{long-line-found, long-line-broken}
-use Rattle.framing.proofs.LongTrailer.{long-trailer-found, long-trailer-broken}
+use Rattle.framing.proofs.Finds.{Finds, finds, Tied}
+use Rattle.framing.proofs.LongLine.{long-line-found, long-line-tied}
+use Rattle.framing.proofs.LongTrailer.{long-trailer-found, long-trailer-tied}
 use Rattle.framing.proofs.NoRoom.{no-room-found, no-room-broken, fits}
 
 -- ## Ends
@@ -82,9 +82,27 @@ module _ (room : ℕ) where
   found n (G.longTrailer i e) = long-trailer-found i e
   found n (G.noRoom i fits passes) = no-room-found room i passes
 
+  abbrev Holds : Bool → Type 0
+  Holds x = x ≡ true
+
   -- no byte so far broke the limit
   abbrev Unpassed : ℕ → List ℕ → Type 0
   Unpassed n p = (i : ℕ) → i ≤ length p → broke room n (run step start (take i p)) ≡ false
+
+  ties : Each (Tied room) tests
+  ties = (long-line-tied room, (long-trailer-tied room, tt))
+
+  tied-broken : (ts : List (ℕ × (State → Bool))) → Each (Tied room) ts → (n : ℕ) (s : State) (p d : List ℕ) → testOf ts n s ≡ true → live s ≡ true
+      → Past s p d → Broken room n p
+  tied-broken [] k n s p d e a h = false-true e
+  tied-broken (t ∷ ts) k n s p d e a h =
+      by-cond Holds (eqb n (t .0))
+      (λ z y. subst (λ (m : ℕ). Broken room m p) (sym (eqb-true n (t .0) z)) (k .0 .broken s p d y a h))
+      (λ _ y. tied-broken ts (k .1) n s p d y a h) e
+
+  tied-opens : (ts : List (ℕ × (State → Bool))) → Each (Tied room) ts → (n : ℕ) → testOf ts n start ≡ false
+  tied-opens [] k n = refl
+  tied-opens (t ∷ ts) k n = to-cond (λ (x : Bool). x ≡ false) (eqb n (t .0)) (λ _. k .0 .opens) (λ _. tied-opens ts (k .1) n)
 
   -- by its number, from the ties of each
   broken : (n : ℕ) (p : List ℕ) (b : ℕ) → Unpassed n p → live (run step start (p ++ (b ∷ []))) ≡ true
@@ -92,23 +110,10 @@ module _ (room : ℕ) where
   broken n p b before a =
       by-cond Holds (eqb n BODY_TOO_LARGE)
       (λ e h. is BODY_TOO_LARGE e (no-room-broken room p b (was BODY_TOO_LARGE e) h))
-      (λ _. by-cond Holds (eqb n LINE_TOO_LONG)
-      (λ e h. is LINE_TOO_LONG e (long-line-broken room behind all given h a (past all)))
-      (λ _. by-cond Holds (eqb n TRAILER_TOO_LONG)
-      (λ e h. is TRAILER_TOO_LONG e (long-trailer-broken room behind all given h a (past all)))
-      (λ _ h. false-true h)))
+      (λ _ h. tied-broken tests ties n (run step start all) all (out step emit start all) h a (past all))
     where
       all : List ℕ
       all = p ++ (b ∷ [])
-
-      behind : State
-      behind = run step start all
-
-      given : List ℕ
-      given = out step emit start all
-
-      Holds : Bool → Type 0
-      Holds x = x ≡ true
 
       was : (m : ℕ) → eqb n m ≡ true → Unpassed m p
       was m e = subst (λ (k : ℕ). Unpassed k p) (eqb-true n m e) before
@@ -118,7 +123,7 @@ module _ (room : ℕ) where
 
   unbroken : (n : ℕ) → broke room n start ≡ false
   unfolding pastRoom
-  unbroken n = never (eqb n BODY_TOO_LARGE) (never (eqb n LINE_TOO_LONG) (never (eqb n TRAILER_TOO_LONG) refl))
+  unbroken n = never (eqb n BODY_TOO_LARGE) (tied-opens tests ties n)
 
 module _ (ls : List ℕ) (room : ℕ) where
   -- bytes with no verdict are within the limits

@@ -12,6 +12,7 @@ pub mod Past
 pub mod Rooms
 pub mod Finds
 pub mod LongLine
+pub mod InTrailer
 pub mod LongTrailer
 pub mod NoRoom
 pub mod Judging

@@ -1,5 +1,5 @@
 -- The limit on chunk lines: the machine finds it where the grammar says that it is broken, and nowhere else.
-use mathlib.Core.Path.{_≡_, sym, _∙_, ap, subst}
+use mathlib.Core.Path.{_≡_, refl, sym, _∙_, ap, subst}
 use mathlib.Core.Bool.{true}
 use mathlib.Core.List.{List, _++_}
 use mathlib.Core.Option.{some}
@@ -20,7 +20,7 @@ use Rattle.framing.proofs.Scanning.{run-append, run-live}
 use Rattle.framing.proofs.Lines.{lineRun, line-sound, line-complete, line-dead, line-finish, line-ends-live}
 use Rattle.framing.proofs.Goes.{then, goes-chunks, goes-line}
 use Rattle.framing.proofs.Past.{Past}
-use Rattle.framing.proofs.Finds.{Finds}
+use Rattle.framing.proofs.Finds.{Finds, Tied}
 
 pub long-line-found : {p l : List ℕ} → InLine p l → length l ≡ suc LINE_LIMIT → Finds longLine p
 unfolding live done
@@ -35,7 +35,7 @@ long-line-found (G.inLine {d = d} {l = l} u {v = v} cs h) e =
       passed = eq-eqb (0 + length l) (suc LINE_LIMIT) (omega arith);
     }
 
-pub long-line-broken : (room : ℕ) (s : State) (p d : List ℕ) → longLine s ≡ true → live s ≡ true → Past s p d → Broken room LINE_TOO_LONG p
+long-line-broken : (room : ℕ) (s : State) (p d : List ℕ) → longLine s ≡ true → live s ≡ true → Past s p d → Broken room LINE_TOO_LONG p
 unfolding live
 long-line-broken room (Line x k t) p d e a h =
     let f : (u : List ℕ) × (v : ℕ) × (lineEnds (lineRun x u) ≡ some v) = line-finish x a in
@@ -52,3 +52,6 @@ long-line-broken room (Trail x k t) p d e a h = false-true e
 long-line-broken room (EndLf t) p d e a h = false-true e
 long-line-broken room (Done t) p d e a h = false-true e
 long-line-broken room Dead p d e a h = false-true e
+
+pub long-line-tied : (room : ℕ) → Tied room (LINE_TOO_LONG, longLine)
+long-line-tied room = record { opens = refl; broken = long-line-broken room }

@@ -10,13 +10,12 @@ use lib.ListN.{length, length-append}
 use borrow.Author.Tests.{eqb-true}
 use Rattle.framing.specs.declared.LinePos.{LinePos}
 use Rattle.framing.specs.declared.LinePos.the-variants.{First}
-use Rattle.framing.specs.declared.TrailPos.{TrailPos}
 use Rattle.framing.specs.declared.State.{State}
 use Rattle.framing.specs.declared.State.the-variants.{Line, LineFeed, Data, DataCr, DataLf, Trail, EndLf, Done, Dead}
 use Rattle.framing.specs.Grammar as G
 use Rattle.octets.specs.Bytes.{octet?}
 use Rattle.framing.specs.Grammar.{Many, Chunk, Chunks, Body}
-use Rattle.framing.specs.helpers.Machine.{lineStep, lineEnds, trailer, leaveLine, enterChunk, step, emit, start}
+use Rattle.framing.specs.helpers.Machine.{lineStep, lineEnds, TrailerAt, trailer, leaveLine, enterChunk, step, emit, start}
 use Rattle.framing.specs.helpers.Scan.{run, out}
 use Rattle.framing.proofs.Scanning.{run-append}
 use Rattle.framing.proofs.Cases.{to-cond}
@@ -68,7 +67,7 @@ pub record DataEnd (z : List ℕ) (t : ℕ) (pre out : List ℕ) : Type 0 where
   pub left : size ≡ length (inside .part)
 
 -- chunks, the last chunk's line, CR LF, and y, a part of the trailer, and what z says
-pub record InTrail (p : TrailPos) (k : ℕ) (z : List ℕ) (t : ℕ) (pre done : List ℕ) : Type 0 where
+pub record InTrail (p : TrailerAt) (k : ℕ) (z : List ℕ) (t : ℕ) (pre done : List ℕ) : Type 0 where
   pub chunks : List ℕ
   pub line : List ℕ
   pub part : List ℕ
@@ -81,7 +80,7 @@ pub record InTrail (p : TrailPos) (k : ℕ) (z : List ℕ) (t : ℕ) (pre done :
 
 -- and the trailer may end there
 pub record TrailEnd (z : List ℕ) (t : ℕ) (pre done : List ℕ) : Type 0 where
-  pub position : TrailPos
+  pub position : TrailerAt
   pub length : ℕ
   pub inside : InTrail position length z t pre done
   pub ends : trailer .ends position ≡ true
@@ -209,21 +208,21 @@ module _ (pre d : List ℕ) where
         total = omega (arith, h .total, e .left, length-append (h .done) (h .part), ap length (h .out-is));
       }
 
-  trail-on : (p : TrailPos) (k t b : ℕ) → InTrail p k [] t pre d → InTrail (trailer .next p b) (suc k) [] t (pre ++ (b ∷ [])) d
+  trail-on : (p : TrailerAt) (k t b : ℕ) → InTrail p k [] t pre d → InTrail (trailer .next p b) (suc k) [] t (pre ++ (b ∷ [])) d
   trail-on p k t b h = record {
     chunks = h .chunks;
     line = h .line;
     part = h .part ++ (b ∷ []);
     are = h .are;
     is = h .is;
-    at = run-append (trailer .next) (trailer .begin) (h .part) (b ∷ []) ∙ ap (λ (z : TrailPos). trailer .next z b) (h .at);
+    at = run-append (trailer .next) (trailer .begin) (h .part) (b ∷ []) ∙ ap (λ (z : TrailerAt). trailer .next z b) (h .at);
     count = omega (arith, h .count, length-append (h .part) (b ∷ []));
     split = ap (λ (z : List ℕ). z ++ (b ∷ [])) (h .split) ∙ simp (append-assoc, append-nil);
     total = h .total;
   }
 
   -- the closing CR: the trailer is whole
-  close-on : (p : TrailPos) (k t : ℕ) → trailer .ends p ≡ true → InTrail p k [] t pre d → TrailEnd (13 ∷ []) t (pre ++ (13 ∷ [])) d
+  close-on : (p : TrailerAt) (k t : ℕ) → trailer .ends p ≡ true → InTrail p k [] t pre d → TrailEnd (13 ∷ []) t (pre ++ (13 ∷ [])) d
   close-on p k t e h = record {
     position = p;
     length = k;

@@ -1,5 +1,5 @@
 -- The first of some limits that passes a test, by their ranks.
-use mathlib.Core.Path.{_≡_, refl, sym, _∙_, ap}
+use mathlib.Core.Path.{_≡_, refl, sym, _∙_, ap, subst}
 use mathlib.Core.Bool.{Bool, true, false, cond}
 use mathlib.Core.List.{List, [], _∷_}
 use mathlib.Core.Logic.{_⊎_, inl, inr}
@@ -91,3 +91,17 @@ first-same test test′ one same lifts (l ∷ ls) =
     go on false true false e p q = false-true (sym q ∙ same l (differs e) ∙ p)
     go on false false true e p q = false-true (sym (same l (differs e) ∙ p) ∙ q)
     go on false false false e p q = on
+
+-- ## What holds of each in a list
+abbrev pub Each : {A : Type 0} → (A → Type 0) → List A → Type 0
+Each P [] = Unit {0}
+Each P (x ∷ xs) = P x × Each P xs
+
+-- holds of each limit that is one of them
+pub among-each : (P : ℕ → Type 0) (ls : List ℕ) (n : ℕ) → Each P ls → Among ls n → P n
+among-each P [] n h a = absurd (omega arith)
+among-each P (l ∷ ls) n h a = go (λ b. among-each P ls n (h .1) b) (eqb n l) refl
+  where
+    go : (Among ls n → P n) → (x : Bool) → eqb n l ≡ x → P n
+    go on true e = subst P (sym (eqb-true n l e)) (h .0)
+    go on false e = on (omega (arith, (rw e at a)))

@@ -10,11 +10,11 @@ use Rattle.framing.specs.declared.TrailPos.the-variants.{LineStart, Name
 use Rattle.framing.specs.Grammar as G
 use Rattle.octets.specs.Bytes.{token?, content?}
 use Rattle.framing.specs.Grammar.{Many, Some, Trailer}
-use Rattle.framing.specs.helpers.Trailer.{trailStep, trailEnds, trailLive, trailer}
+use Rattle.framing.specs.helpers.Trailer.{trailStep, trailEnds, trailLive, plain, TrailerAt, place, trailer}
 use Rattle.framing.specs.helpers.Scan.{run}
 use Rattle.framing.proofs.Scanning.{run-append, run-step}
 use Rattle.framing.proofs.Cases.{false-true, by-cond}
-use Rattle.framing.proofs.Parts.{Reads}
+use Rattle.framing.proofs.Parts.{Reads, refined}
 
 abbrev trailRun : TrailPos → List ℕ → TrailPos
 trailRun = run trailStep
@@ -139,15 +139,19 @@ ends-live Value h = refl
 ends-live Lf h = refl
 ends-live Dead h = false-true h
 
--- ## By the name of the part
-pub trailer-no-cr : (p : TrailPos) → trailer .ends p ≡ true → trailer .alive (trailer .next p 13) ≡ false
-trailer-no-cr = no-cr
-
-pub trailer-read : Reads Trailer trailer
-trailer-read = record {
+plain-read : Reads Trailer plain
+plain-read = record {
   sound = λ xs t. ap trailEnds (trail-sound t);
   complete = trail-complete;
   ends-alive = ends-live;
   finish = trail-finish;
   dead = trail-dead;
 }
+
+-- ## By the name of the part, whatever it remembers besides its place
+pub trailer-no-cr : (p : TrailerAt) → trailer .ends p ≡ true → trailer .alive (trailer .next p 13) ≡ false
+trailer-no-cr p = no-cr (place p)
+
+pub trailer-read : Reads Trailer trailer
+trailer-read =
+    refined trailer plain place (record { begin = refl; next = λ p b. refl; ends = λ p. refl; alive = λ p. refl }) plain-read

@@ -12,10 +12,9 @@ use Rattle.framing.specs.declared.ExtPos.{ExtPos}
 use Rattle.framing.specs.declared.ExtPos.the-variants as ExtPos
 use Rattle.framing.specs.declared.LinePos.{LinePos}
 use Rattle.framing.specs.declared.LinePos.the-variants.{First, Size, Ext}
-use Rattle.framing.specs.declared.TrailPos.{TrailPos}
 use Rattle.framing.specs.declared.State.{State}
 use Rattle.framing.specs.declared.State.the-variants.{Line, LineFeed, Data, DataCr, DataLf, Trail, EndLf, Done, Dead}
-use Rattle.framing.specs.helpers.Machine.{extensions, lineStep, lineEnds, lineLive, trailer}
+use Rattle.framing.specs.helpers.Machine.{extensions, lineStep, lineEnds, lineLive, TrailerAt, trailer}
 use Rattle.framing.specs.helpers.Machine.{leaveLine, enterChunk, step, live, done, pastRoom, machine, tell}
 use Rattle.framing.specs.helpers.Scan.{ended, refusal, verdictOf, over-by}
 use Rattle.framing.specs.Reading.{judge}
@@ -24,6 +23,13 @@ use Rattle.framing.proofs.Rooms.{sizeOf}
 
 -- ## Verdicts
 module _ (room : ℕ) where
+  -- a live state, by the limit that it breaks
+  judged : (s : State) (o : Option ℕ) → live s ≡ true → over-by machine tell limits room s ≡ o → judge room s ≡ verdictOf o (done s)
+  unfolding judge
+  judged s o a e =
+      ap (λ (z : Bool). cond z (verdictOf (over-by machine tell limits room s) (done s)) (some (refusal 1))) a
+      ∙ ap (λ (z : Option ℕ). verdictOf z (done s)) e
+
   pub dead-refused : (s : State) → live s ≡ false → judge room s ≡ some (refusal 1)
   unfolding judge
   dead-refused s e = ap (λ (z : Bool). cond z (verdictOf (over-by machine tell limits room s) (done s)) (some (refusal 1))) e
@@ -108,19 +114,17 @@ module _ (room : ℕ) where
     pub ext-quiet : extensions .alive e ≡ true → (k ≡ suc LINE_LIMIT → ⊥) → judge room (Line (Ext v e) k t) ≡ none
     ext-quiet h n = by-length h ∙ ap (λ (z : Bool). verdictOf (cond z (some 5) none) none) (ne-eqb k (suc LINE_LIMIT) n)
 
-  module _ (p : TrailPos) (k t : ℕ) where
+  module _ (p : TrailerAt) (k t : ℕ) where
     pub trail-dead : trailer .alive p ≡ false → judge room (Trail p k t) ≡ some (refusal 1)
     trail-dead h = dead-refused (Trail p k t) (unfold live in h)
 
-    by-count : trailer .alive p ≡ true → judge room (Trail p k t) ≡ verdictOf (cond (eqb k (suc TRAILER_LIMIT)) (some 6) none) none
-    unfolding judge live done
-    by-count h = ap (λ (z : Bool). cond z (verdictOf (cond (eqb k (suc TRAILER_LIMIT)) (some 6) none) none) (some (refusal 1))) h
-
     pub trail-six : trailer .alive p ≡ true → k ≡ suc TRAILER_LIMIT → judge room (Trail p k t) ≡ some (refusal 6)
-    trail-six h n = by-count h ∙ ap (λ (z : Bool). verdictOf (cond z (some 6) none) none) (eq-eqb k (suc TRAILER_LIMIT) n)
+    unfolding live done
+    trail-six h n = judged (Trail p k t) (some 6) h (rw (eq-eqb k (suc TRAILER_LIMIT) n) refl)
 
     pub trail-quiet : trailer .alive p ≡ true → (k ≡ suc TRAILER_LIMIT → ⊥) → judge room (Trail p k t) ≡ none
-    trail-quiet h n = by-count h ∙ ap (λ (z : Bool). verdictOf (cond z (some 6) none) none) (ne-eqb k (suc TRAILER_LIMIT) n)
+    unfolding live done
+    trail-quiet h n = judged (Trail p k t) none h (rw (ne-eqb k (suc TRAILER_LIMIT) n) refl)
 
 -- ## Steps
 module _ (b : ℕ) where
@@ -185,11 +189,11 @@ module _ (b : ℕ) where
   no-data-lf t h = ap (λ (z : Bool). cond z (Line First 0 t) Dead) (ne-eqb b 10 h)
 
   -- in the trailer
-  pub trail-close : (p : TrailPos) (k t : ℕ) → (trailer .ends p && eqb b 13) ≡ true → step (Trail p k t) b ≡ EndLf t
+  pub trail-close : (p : TrailerAt) (k t : ℕ) → (trailer .ends p && eqb b 13) ≡ true → step (Trail p k t) b ≡ EndLf t
   unfolding step
   trail-close p k t h = ap (λ (z : Bool). cond z (EndLf t) (Trail (trailer .next p b) (suc k) t)) h
 
-  pub trail-step : (p : TrailPos) (k t : ℕ) → (trailer .ends p && eqb b 13) ≡ false → step (Trail p k t) b ≡ Trail (trailer .next p b) (suc k) t
+  pub trail-step : (p : TrailerAt) (k t : ℕ) → (trailer .ends p && eqb b 13) ≡ false → step (Trail p k t) b ≡ Trail (trailer .next p b) (suc k) t
   unfolding step
   trail-step p k t h = ap (λ (z : Bool). cond z (EndLf t) (Trail (trailer .next p b) (suc k) t)) h
 

@@ -16,10 +16,11 @@ use Rattle.text.proofs.Placing.{Put, put-none, put-then, behind-fits}
 use Rattle.framing.specs.declared.Whole.{Whole}
 use Rattle.framing.specs.Answer.{Answer, whole, more, refused}
 use Rattle.framing.specs.Grammar as G
-use Rattle.framing.specs.Grammar.{Chunk, Chunks, Body, Broken, limits, chunked}
-use Rattle.framing.specs.Demand.{Malformed, Over}
+use Rattle.framing.specs.Grammar.{Chunk, Chunks, Body, limits, chunked}
+use Rattle.framing.specs.Demand.{Among, Malformed, Over}
 use Rattle.framing.specs.Reading.{decode}
 use Rattle.framing.proofs.Demands as Framing
+use Rattle.framing.proofs.Ranks.{among-each}
 use Rattle.lines.specs.Grammar.{DIGIT_LIMIT}
 use Rattle.lines.specs.Reading.{spelled, hex-answer, hex-output}
 use Rattle.lines.specs.declared.Hex.{Hex}
@@ -130,10 +131,8 @@ chunks-data (G.more {c = c} {d = d} {e = e} {x = x} cs k) =
 body-data : {f d : List ℕ} → Body f d → length d ≤ length f
 body-data (G.body {c = c} {l = l} {t = t} cs h m) = omega (arith, chunks-data cs, length-append c (l ++ (13 ∷ 10 ∷ (t ++ (13 ∷ 10 ∷ [])))))
 
-broken-number : {r n : ℕ} {p : List ℕ} → Broken r n p → n < 100
-broken-number (G.longLine i e) = omega arith
-broken-number (G.longTrailer i e) = omega arith
-broken-number (G.noRoom d h k) = omega arith
+limit-number : (n : ℕ) → Among limits n → n < 100
+limit-number n a = among-each (λ m. m < 100) limits n (omega arith) a
 
 answer-short : (r : ℕ) (s : List ℕ) (a : Answer Whole) → length s ≤ 16384 → decode r s ≡ a → length (said-answer a) ≤ 16
 unfolding said-answer
@@ -147,7 +146,7 @@ answer-short r s (refused n p) h e = split (eqb n 1)
     let w : Malformed (chunked limits) r s p = Framing.malformed r s p .0 f in
     two-short (bytes "R ") n p refl (omega (arith, eqb-true n 1 t)) (omega (arith, w .reaches .inside)))
     (λ t. let w : Over (chunked limits) r s n p = Framing.limit r s n p (eqb-false n 1 t) .0 e in
-    two-short (bytes "R ") n p refl (omega (arith, broken-number (w .broken))) (omega (arith, w .reaches .inside)))
+    two-short (bytes "R ") n p refl (omega (arith, limit-number n (w .limit))) (omega (arith, w .reaches .inside)))
 
 bytes-short : (l : List ℕ) (o : Option (List ℕ)) → spelled l ROOM ≡ o → length (said-bytes o) ≤ 16
 unfolding said-bytes

@@ -2,14 +2,15 @@
 use native.Mathlib.Omega.{arith}
 use borrow.Author.Needs.{needs}
 use Prim.Native.Nat.{_-_, _≤_}
-use mathlib.Core.Path.{_≡_, sym, _∙_, ap}
+use mathlib.Core.Path.{_≡_, sym, _∙_}
+use mathlib.Core.Bool.{true}
 use borrow.Author.Tests.{not-true, not-false}
-use lib.ListN.{length, getD}
+use lib.ListN.{length}
 use Rattle.framing.specs.helpers.Machine.{trailer}
 use Rattle.framing.specs.declared.State.the-variants.{Trail}
 use Rattle.chunked.specs.helpers.Passes.{At}
 use Rattle.chunked.proofs.Passes.{at-more, last-more, last-refused}
-use Rattle.chunked.proofs.Lines.{trail-start, trail-closed, trail-wrong, trail-long, trail-on}
+use Rattle.chunked.proofs.Lines.{Into, trail-start, trail-closed, trail-into, trail-wrong, trail-long, trail-on}
 use Rattle.chunked.proofs.trailer.Statement.{statement}
 use Rattle.chunked.proofs.trailer.Tie as tie
 
@@ -25,47 +26,36 @@ loop-holds c = (omega arith, trail-start (c .before .pre))
 close-requires : tie.Need-close-requires Inv-loop μ-loop
 close-requires c κs =
     let l = c .before .before .before in
-    trail-closed _ (l .before .loop .inv .0) (l .before .loop .inv .1) (l .loop-test .taken)
-    (sym (c .before .closes .ensures) ∙ c .if1 .taken)
+    trail-closed (l .before .loop .inv .1) (l .loop-test .taken) (sym (c .before .closes .ensures) ∙ c .if1 .taken)
 
--- is the position behind the byte live
-alive : (c : tie.After-trail-live Inv-loop μ-loop)
-    → trailer .alive (trailer .next (c .before .before .before .before .before .before .loop .pos)
-    (getD (c .before .before .before .before .before .before .before .before .args .input .now)
-    (c .before .before .before .before .before .before .loop .at) 0))
-    ≡ c .trail-live .result
-alive c = sym (ap (trailer .alive) (c .before .trail-step .ensures)) ∙ sym (c .trail-live .ensures)
+-- ## What the ways out behind the step know
+into : (c : tie.After-trail-step Inv-loop μ-loop)
+    → let l = c .before .before .before .before .before in
+    let x = l .before .before .args in
+    Into (x .room) (x .input .now) (c .trail-step .result) (x .start) (x .total) (l .loop .at)
+into c =
+    let l = c .before .before .before .before in
+    trail-into _ (l .before .loop .inv .0) (l .before .loop .inv .1) (l .loop-test .taken)
+    (sym (c .before .before .closes .ensures) ∙ c .before .if1 .left) (c .trail-step .ensures)
+
+alive : (c : tie.Else2 Inv-loop μ-loop) → trailer .alive (c .before .before .trail-step .result) ≡ true
+alive c = sym (c .before .trail-live .ensures) ∙ not-false _ (c .if2 .left)
 
 returns-2 : tie.Need-returns-2 Inv-loop μ-loop
 returns-2 c =
     let v = c .before .before in
-    let e = v .before .before in
-    let l = e .before .before .before in
-    last-refused (c .refuse .ensures)
-    (trail-wrong _ (l .before .loop .inv .0) (l .before .loop .inv .1) (l .loop-test .taken)
-    (sym (e .before .closes .ensures) ∙ e .if1 .left)
-    (alive v ∙ not-true _ (c .before .if2 .taken)))
+    last-refused (c .refuse .ensures) (trail-wrong (into (v .before)) (sym (v .trail-live .ensures) ∙ not-true _ (c .before .if2 .taken)))
 
 returns-3 : tie.Need-returns-3 Inv-loop μ-loop
 returns-3 c =
-    let v = c .before .before .before in
-    let e = v .before .before in
-    let l = e .before .before .before in
-    last-refused (c .refuse2 .ensures)
-    (trail-long _ (l .before .loop .inv .0) (l .before .loop .inv .1) (l .loop-test .taken)
-    (sym (e .before .closes .ensures) ∙ e .if1 .left)
-    (alive v ∙ not-false _ (c .before .before .if2 .left)) (c .before .if3 .taken))
+    let v = c .before .before in
+    last-refused (c .refuse2 .ensures) (trail-long (into (v .before .before)) (alive v) (c .before .if3 .taken))
 
 loop-again : tie.Need-loop-again Inv-loop μ-loop
 loop-again c =
-    let v = c .before .before in
-    let e = v .before .before in
-    let l = e .before .before .before in (
+    let v = c .before in (
       omega arith,
-      rw (v .before .trail-step .ensures)
-          (trail-on _ (l .before .loop .inv .0) (l .before .loop .inv .1) (l .loop-test .taken)
-          (sym (e .before .closes .ensures) ∙ e .if1 .left)
-          (alive v ∙ not-false _ (c .before .if2 .left)) (c .if3 .left)),
+      trail-on (into (v .before .before)) (alive v) (c .if3 .left),
     )
 
 returns-4 : tie.Need-returns-4 Inv-loop μ-loop

@@ -11,7 +11,7 @@ use Rattle.framing.specs.Grammar.{LINE_LIMIT, TRAILER_LIMIT}
 use Rattle.framing.specs.helpers.Scan.{Machine}
 -- the two parts of a body that have a machine of their own; all else takes them by these names
 pub use Rattle.framing.specs.helpers.Extensions.{extensions}
-pub use Rattle.framing.specs.helpers.Trailer.{trailer}
+pub use Rattle.framing.specs.helpers.Trailer.{TrailerAt, trailer}
 use Rattle.framing.specs.declared.ExtPos.the-variants as ExtPos
 use Rattle.framing.specs.declared.LinePos.{LinePos}
 use Rattle.framing.specs.declared.LinePos.the-variants.{First, Size, Ext}
@@ -113,16 +113,23 @@ longLine (EndLf t) = false
 longLine (Done t) = false
 longLine Dead = false
 
+-- a test of where the trailer stands and of its bytes so far
+abbrev pub inTrailer : (TrailerAt → ℕ → Bool) → State → Bool
+inTrailer test (Line p k t) = false
+inTrailer test (LineFeed v t) = false
+inTrailer test (Data m t) = false
+inTrailer test (DataCr t) = false
+inTrailer test (DataLf t) = false
+inTrailer test (Trail p k t) = test p k
+inTrailer test (EndLf t) = false
+inTrailer test (Done t) = false
+inTrailer test Dead = false
+
+abbrev pub pastTrailer : TrailerAt → ℕ → Bool
+pastTrailer p k = eqb k (suc TRAILER_LIMIT)
+
 abbrev pub longTrailer : State → Bool
-longTrailer (Line p k t) = false
-longTrailer (LineFeed v t) = false
-longTrailer (Data m t) = false
-longTrailer (DataCr t) = false
-longTrailer (DataLf t) = false
-longTrailer (Trail p k t) = eqb k (suc TRAILER_LIMIT)
-longTrailer (EndLf t) = false
-longTrailer (Done t) = false
-longTrailer Dead = false
+longTrailer = inTrailer pastTrailer
 
 -- finished chunks and the size read so far pass the room
 unfoldable pub pastRoom : ℕ → LinePos → ℕ → Bool
@@ -141,10 +148,22 @@ noRoom room (EndLf t) = false
 noRoom room (Done t) = false
 noRoom room Dead = false
 
--- by number: those that no room changes, then all
-abbrev pub tooLong : ℕ → State → Bool
-tooLong n s = cond (eqb n LINE_TOO_LONG) (longLine s) (cond (eqb n TRAILER_TOO_LONG) (longTrailer s) false)
+-- the limits that no room changes, each with its test
+abbrev pub tests : List (ℕ × (State → Bool))
+tests =
+    (LINE_TOO_LONG, longLine)
+    ∷ (TRAILER_TOO_LONG, longTrailer)
+    ∷ []
 
+-- the test of that number
+abbrev pub testOf : List (ℕ × (State → Bool)) → ℕ → State → Bool
+testOf [] n s = false
+testOf (t ∷ ts) n s = cond (eqb n (t .0)) (t .1 s) (testOf ts n s)
+
+abbrev pub tooLong : ℕ → State → Bool
+tooLong n s = testOf tests n s
+
+-- by number, in a room
 abbrev pub broke : ℕ → ℕ → State → Bool
 broke room n s = cond (eqb n BODY_TOO_LARGE) (noRoom room s) (tooLong n s)
 

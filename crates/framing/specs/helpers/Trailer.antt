@@ -29,5 +29,17 @@ trailEnds Value = false
 trailEnds Lf = false
 trailEnds Dead = false
 
-abbrev pub trailer : Part TrailPos
-trailer = record { begin = LineStart; next = trailStep; ends = trailEnds; alive = trailLive }
+abbrev pub plain : Part TrailPos
+plain = record { begin = LineStart; next = trailStep; ends = trailEnds; alive = trailLive }
+
+-- ## What the body's machine remembers of it
+-- a limit that counts inside the trailer remembers more; its place among trailer lines is the plain position
+
+abbrev pub TrailerAt : Type 0
+TrailerAt = TrailPos
+
+abbrev pub place : TrailerAt → TrailPos
+place p = p
+
+abbrev pub trailer : Part TrailerAt
+trailer = plain
