@@ -5,8 +5,9 @@
  * Bytes are a pointer and a length. A length of 0 may come with any pointer, null included; nothing is read or written
  * through it. An output overlaps no input. Readers of header values take the value whole: the caller trims outer
  * blanks. Writers write at the front of the output, keep the rest and give the length; the chunked reader writes the
- * body there. A refusal writes nothing, nor does "more". No function keeps anything between calls: any number of
- * threads may call them, each on bytes of its own or on inputs that they share.
+ * body there. A refusal writes nothing, nor does "more"; the reader in pieces alone writes data as it comes. No
+ * function keeps anything between calls: any number of threads may call them, each on bytes of its own or on inputs
+ * that they share.
  *
  * In each struct `number` is 0 where there is an answer, otherwise one of the refusal numbers; a field that has no
  * meaning then is 0. Places count from 0.
@@ -49,7 +50,9 @@ enum {
     /* Comment nested deeper than 8; place: the ninth open parenthesis. */
     QZ_COMMENT_TOO_DEEP = 12,
     /* Header value above 8,192 bytes; place: 8,192. */
-    QZ_VALUE_TOO_LONG = 13
+    QZ_VALUE_TOO_LONG = 13,
+    /* Framed body above 1,099,511,627,776 bytes (reader of pieces); place: the byte after that. */
+    QZ_FRAMED_TOO_LONG = 14
 };
 
 /* Whether two inputs are equal, or match. */
@@ -68,6 +71,25 @@ typedef struct QzWritten {
     /* how many bytes were written */
     size_t length;
 } QzWritten;
+
+enum {
+    /* QzBody.state. */
+    QZ_WHOLE = 0,
+    QZ_MORE = 1,
+    QZ_REFUSED = 2
+};
+
+/* What the reader of chunked bodies answers. */
+typedef struct QzBody {
+    /* QZ_WHOLE, QZ_MORE or QZ_REFUSED */
+    uint8_t state;
+    uint8_t number;
+    size_t place;
+    /* how many bytes of the input are the body */
+    size_t taken;
+    /* how many bytes of data were written */
+    size_t length;
+} QzBody;
 
 enum {
     /* QzOrder.order where number is 0. */
@@ -281,25 +303,6 @@ typedef struct QzProducts {
 /* Products and comments with blanks between; comments hold comments to eight levels. */
 QzProducts qz_products_read(const uint8_t *s, size_t s_len);
 
-enum {
-    /* QzBody.state. */
-    QZ_WHOLE = 0,
-    QZ_MORE = 1,
-    QZ_REFUSED = 2
-};
-
-/* What the reader of chunked bodies answers. */
-typedef struct QzBody {
-    /* QZ_WHOLE, QZ_MORE or QZ_REFUSED */
-    uint8_t state;
-    uint8_t number;
-    size_t place;
-    /* how many bytes of the input are the body */
-    size_t taken;
-    /* how many bytes of data were written */
-    size_t length;
-} QzBody;
-
 /* Reads a chunked body at the front of the input and writes its data, at most `out_len` bytes of it. The output must
  * not overlap the input. */
 QzBody qz_chunked_decode(const uint8_t *input, size_t input_len, uint8_t *out, size_t out_len);
@@ -308,9 +311,46 @@ QzBody qz_chunked_decode(const uint8_t *input, size_t input_len, uint8_t *out, s
  * the body. */
 QzWritten qz_chunked_encode(const uint8_t *body, size_t body_len, size_t chunk_len, uint8_t *out, size_t out_len);
 
+/* What the reader in pieces keeps between calls: copy it freely. A field is not for callers to change. It holds no
+ * byte of the body. */
+typedef struct QzPieces {
+    uint8_t position;
+    uint8_t part;
+    size_t size;
+    size_t length;
+    size_t total;
+    size_t taken;
+    size_t room;
+    size_t refused;
+} QzPieces;
+
+/* What a call of qz_pieces_feed gives. */
+typedef struct QzFed {
+    /* for the next call */
+    QzPieces pieces;
+    /* how many bytes of the piece were taken */
+    size_t took;
+    /* how many bytes of data stand at the front of the output */
+    size_t written;
+    /* the answer about the body so far; its place and counts are those of the body, not of the piece */
+    QzBody body;
+} QzFed;
+
+/* Before the first byte of a body whose data goes to an output of `room` bytes. */
+QzPieces qz_pieces_start(size_t room);
+
+/* Reads the next piece of a chunked body: takes the smaller of quota and piece length, fewer only where the body ends
+ * or at a refused byte, which is not taken, and writes the data among them. The output has `room` bytes and is the one
+ * that the last call left: the data so far stands at its front, after QZ_MORE and after a refusal in the body too, and
+ * the rest is as lent. It must not overlap the piece. Once whole or refused in the body, later valid calls take
+ * nothing and repeat the answer. A quota of 0, another output length than the room, or numbers that no call can have
+ * given is QZ_OUT_OF_RANGE at 0: it takes nothing, changes neither the state nor the output, and is no answer about
+ * the body. */
+QzFed qz_pieces_feed(QzPieces pieces, const uint8_t *piece, size_t piece_len, size_t quota, uint8_t *out, size_t out_len);
+
 /* The version of this header; qz_library_version gives that of the library which is linked. */
 #define QZ_VERSION_MAJOR 0
-#define QZ_VERSION_MINOR 2
+#define QZ_VERSION_MINOR 3
 #define QZ_VERSION_PATCH 0
 
 /* The version of the library. */

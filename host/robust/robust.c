@@ -16,18 +16,20 @@
 #include <time.h>
 #include <unistd.h>
 
-/* The limits that document 01 gives, and the numbers of its table of refusals. */
-enum { LINE_LIMIT = 1024, VALUE_LIMIT = 8192, VERSION_LIMIT = 65535, LEVEL_LIMIT = 8, NUMBERS = 14 };
+/* The limits that the documents give, and how many numbers there are, 0 included. */
+enum { LINE_LIMIT = 1024, VALUE_LIMIT = 8192, VERSION_LIMIT = 65535, LEVEL_LIMIT = 8, NUMBERS = 15 };
 #define SECONDS_LIMIT 2147483647u
 #define EARLIEST INT64_C(-12212553600)
 #define LATEST INT64_C(253402300799)
 #define WRITER_LIMIT ((size_t)1 << 30)
+#define FRAMED_LIMIT ((size_t)1 << 40)
 
 enum {
     LONGEST = 9000,     /* of the drawn inputs */
     SHORT = 40,         /* most inputs and outputs are below it */
     MIDDLE = 300,       /* many are below it */
     NEAR = 16,          /* how far from a limit the lengths near it are */
+    CUTS = 16,          /* a long input is fed in about so many pieces */
     GROWTH = 6,         /* the writer makes at most so many bytes of one, and some more for the last chunk */
     ARENA = 1 << 16,    /* bytes between two guards; a multiple of the page size, and above GROWTH times LONGEST */
     MARGIN = 64,        /* bytes around an output that are checked too */
@@ -235,6 +237,12 @@ static Answer of_QzBody(QzBody r, const Call *c)
     return x;
 }
 
+static Answer of_QzPieces(QzPieces r, const Call *c)
+{
+    bool begins = (r.position | r.part) == 0 && (r.size | r.length | r.total | r.taken | r.refused) == 0;
+    return answer(0, 0, c->a.length, begins && r.room == (size_t)c->numbers[0]);
+}
+
 static Answer of_QzLibraryVersion(QzLibraryVersion r, const Call *c)
 {
     bool same = r.major == QZ_VERSION_MAJOR && r.minor == QZ_VERSION_MINOR && r.patch == QZ_VERSION_PATCH;
@@ -313,6 +321,7 @@ static uint8_t *lent(Block block, const Call *c)
     ROW(qz_products_read, (A), QzProducts, products, NO(1) | NO(12) | NO(13))                                        \
     ROW(qz_chunked_decode, (A, OUT), QzBody, bodies, NO(1) | NO(5) | NO(6) | NO(7))                                  \
     ROW(qz_chunked_encode, (A, (size_t)c->numbers[0], OUT), QzWritten, texts, NO(7) | NO(8) | NO(9))                 \
+    ROW(qz_pieces_start, ((size_t)c->numbers[0]), QzPieces, texts, 0)                                                \
     ROW(qz_library_version, (), QzLibraryVersion, texts, 0)
 
 #define CALL(function, arguments, type, samples, numbers)                                                            \
@@ -324,6 +333,9 @@ static uint8_t *lent(Block block, const Call *c)
 
 ENTRIES(CALL)
 
+/* Not one call but several, each on the state that the last one gave. */
+static Answer call_qz_pieces_feed(const Call *c);
+
 typedef struct Entry {
     const char *name;
     Answer (*call)(const Call *c);
@@ -331,7 +343,9 @@ typedef struct Entry {
     unsigned numbers;
 } Entry;
 
-static const Entry entries[] = {ENTRIES(ENTRY)};
+static const Entry entries[] = {
+    ENTRIES(ENTRY)
+    {"qz_pieces_feed", call_qz_pieces_feed, bodies, NO(0) | NO(1) | NO(5) | NO(6) | NO(7) | NO(9) | NO(14)}};
 enum { COUNT = sizeof entries / sizeof entries[0] };
 
 /* ---- the generator: xorshift64* */
@@ -395,6 +409,7 @@ static uint64_t draw_number(void)
                                      WRITER_LIMIT,
                                      SECONDS_LIMIT,
                                      UINT32_MAX,
+                                     FRAMED_LIMIT,
                                      (uint64_t)EARLIEST,
                                      (uint64_t)LATEST,
                                      UINT64_MAX / 2,
@@ -456,7 +471,8 @@ static size_t draw_bytes(const char *const *samples, uint8_t *draft)
 
 /* ---- lent blocks */
 
-static uint8_t *arenas[3];
+enum { INPUT, OTHER_INPUT, OUTPUT, PIECE, ARENAS };
+static uint8_t *arenas[ARENAS];
 static uint8_t drafts[2][ARENA]; /* what the inputs hold */
 static uint8_t untouched[ARENA]; /* what the output's arena holds before each call */
 static uint8_t *huge;            /* more bytes than the writer takes, all 0, only for reading */
@@ -474,7 +490,7 @@ static void *map(size_t length, int protection)
 static void map_arenas(void)
 {
     size_t i;
-    for (i = 0; i < 3; i++) {
+    for (i = 0; i < ARENAS; i++) {
         uint8_t *guard = map(3 * (size_t)ARENA, PROT_NONE);
         arenas[i] = guard + ARENA;
         if (mprotect(arenas[i], ARENA, PROT_READ | PROT_WRITE) != 0) {
@@ -485,7 +501,7 @@ static void map_arenas(void)
     for (i = 0; i < ARENA; i++) {
         untouched[i] = (uint8_t)word();
     }
-    memcpy(arenas[2], untouched, ARENA);
+    memcpy(arenas[OUTPUT], untouched, ARENA);
     huge = map(WRITER_LIMIT + 2, PROT_READ);
 }
 
@@ -518,7 +534,7 @@ static size_t draw_room(size_t input)
 static void draw_call(const Entry *e, Call *c)
 {
     size_t length = draw_bytes(e->samples, drafts[0]);
-    c->a = lend_input(0, length);
+    c->a = lend_input(INPUT, length);
     if (below(2) == 0) {
         /* The same bytes but perhaps for the case of a letter. */
         memcpy(drafts[1], drafts[0], length);
@@ -526,14 +542,220 @@ static void draw_call(const Entry *e, Call *c)
     } else {
         length = draw_bytes(e->samples, drafts[1]);
     }
-    c->b = lend_input(1, length);
+    c->b = lend_input(OTHER_INPUT, length);
     if (below(HUGE_ONCE_IN) == 0) {
         c->a.bytes = huge;
         c->a.length = WRITER_LIMIT + below(3);
     }
-    c->out = lend(arenas[2], draw_room(c->a.length));
+    c->out = lend(arenas[OUTPUT], draw_room(c->a.length));
     c->numbers[0] = draw_number();
     c->numbers[1] = draw_number();
+}
+
+/* ---- bodies in pieces */
+
+/* The call of qz_pieces_feed that is under way. */
+static struct {
+    QzPieces pieces;
+    Block piece;
+    Block out;
+    size_t quota;
+} feeding;
+static uint8_t kept[ARENA]; /* what its output held before */
+
+static bool same_pieces(QzPieces a, QzPieces b)
+{
+    return a.position == b.position && a.part == b.part && a.size == b.size && a.length == b.length &&
+           a.total == b.total && a.taken == b.taken && a.room == b.room && a.refused == b.refused;
+}
+
+static bool same_body(QzBody a, QzBody b)
+{
+    return a.state == b.state && a.number == b.number && a.place == b.place && a.taken == b.taken &&
+           a.length == b.length;
+}
+
+/* How many bytes of data a state has written. In data, `size` bytes are left behind the next one. */
+static size_t filled(QzPieces p)
+{
+    enum { IN_DATA = 2 };
+    return p.position == IN_DATA ? p.total - p.size - 1 : p.total;
+}
+
+/* The answer is of a listed kind, and its other fields are 0. */
+static bool is_listed(QzBody b)
+{
+    bool more = b.state == QZ_MORE && b.number == 0 && b.place == 0;
+    bool refused = b.state == QZ_REFUSED && b.number != 0;
+    bool whole = b.state == QZ_WHOLE && b.number == 0 && b.place == 0;
+    return whole || ((more || refused) && b.taken == 0 && b.length == 0);
+}
+
+static bool is_invalid(QzBody b)
+{
+    return b.state == QZ_REFUSED && b.number == QZ_OUT_OF_RANGE;
+}
+
+/* Only data behind that of the state before, and up to that of the state after, was written. */
+static bool wrote_data(const QzFed *r)
+{
+    size_t from = filled(feeding.pieces);
+    size_t to = filled(r->pieces);
+    size_t length = feeding.out.length;
+    const uint8_t *bytes = feeding.out.bytes;
+    return from <= to && to <= length && to - from <= r->took && memcmp(bytes, kept, from) == 0 &&
+           memcmp(bytes + to, kept + to, length - to) == 0;
+}
+
+/* What must hold of a valid call. */
+static bool is_valid_answer(const QzFed *r)
+{
+    size_t offered = feeding.quota < feeding.piece.length ? feeding.quota : feeding.piece.length;
+    QzBody b = r->body;
+    bool over = b.state != QZ_MORE;
+    bool placed = b.state == QZ_REFUSED ? b.place == r->pieces.taken : true;
+    bool counted = b.state == QZ_WHOLE ? b.taken == r->pieces.taken && b.length == filled(r->pieces) : true;
+    return feeding.quota > 0 && feeding.out.length == feeding.pieces.room && r->pieces.room == feeding.pieces.room &&
+           r->pieces.taken == feeding.pieces.taken + r->took && r->pieces.taken <= FRAMED_LIMIT &&
+           (over ? r->took <= offered : r->took == offered) && placed && counted && wrote_data(r);
+}
+
+static bool output_as_before(void)
+{
+    return memcmp(feeding.out.bytes, kept, feeding.out.length) == 0;
+}
+
+/* One call, with what must hold of any. */
+static QzFed feed(QzPieces pieces, Block piece, size_t quota, Block out, const Call *c, bool *sound)
+{
+    QzFed r;
+    feeding.pieces = pieces;
+    feeding.piece = piece;
+    feeding.quota = quota;
+    feeding.out = out;
+    memcpy(kept, out.bytes, out.length);
+    r = qz_pieces_feed(pieces, lent(piece, c), piece.length, quota, lent(out, c), out.length);
+    *sound = *sound && is_listed(r.body) &&
+             (is_invalid(r.body) ? r.took == 0 && output_as_before() : is_valid_answer(&r));
+    return r;
+}
+
+/* An invalid call on a state that a call gave changes nothing. */
+static bool changes_nothing(QzPieces pieces, Block piece, const Call *c)
+{
+    bool sound = true;
+    Block out = c->out;
+    bool shorter = pieces.room == out.length && out.length > 0 && below(2) == 0;
+    QzFed r;
+    out.length = shorter ? below(out.length) : out.length;
+    r = feed(pieces, piece, shorter ? 1 + below(SHORT) : 0, out, c, &sound);
+    return sound && is_invalid(r.body) && same_pieces(r.pieces, pieces);
+}
+
+/* Once over, a valid call takes nothing and gives the same. */
+static bool repeats(QzFed last, Block piece, const Call *c)
+{
+    bool sound = true;
+    QzFed r = feed(last.pieces, piece, 1 + below(SHORT), c->out, c, &sound);
+    return sound && r.took == 0 && same_pieces(r.pieces, last.pieces) && same_body(r.body, last.body);
+}
+
+static Block lend_piece(const uint8_t *bytes, size_t length)
+{
+    Block piece = lend(arenas[PIECE], length);
+    memcpy(piece.bytes, bytes, length);
+    return piece;
+}
+
+static size_t draw_quota(size_t length)
+{
+    switch (below(4)) {
+    case 0:
+        return 1 + below(length + 1);
+    case 1:
+        return SIZE_MAX - below(2);
+    default:
+        return length + 1;
+    }
+}
+
+/* The whole of it gives the answer of one call. */
+static bool as_in_one(QzBody b, const Call *c)
+{
+    static uint8_t out[ARENA];
+    QzBody one = qz_chunked_decode(c->a.bytes, c->a.length, out, c->out.length);
+    return same_body(b, one) && memcmp(out, c->out.bytes, b.length) == 0;
+}
+
+/* The input from the start, in pieces, with invalid calls between. */
+static Answer feed_all(const Call *c)
+{
+    size_t longest = c->a.length < MIDDLE ? 1 + below(SHORT) : c->a.length / CUTS + below(MIDDLE);
+    size_t most = longest < ARENA ? longest : ARENA;
+    size_t at = 0;
+    bool sound = true;
+    QzFed r;
+    Answer x;
+    r.pieces = qz_pieces_start(c->out.length);
+    do {
+        size_t left = c->a.length - at;
+        size_t length = below(most + 1);
+        Block piece = lend_piece(c->a.bytes + at, length < left ? length : left);
+        sound = sound && (below(4) != 0 || changes_nothing(r.pieces, piece, c));
+        r = feed(r.pieces, piece, draw_quota(piece.length), c->out, c, &sound);
+        at += r.took;
+        sound = sound && r.pieces.taken == at && (r.body.state == QZ_MORE || repeats(r, piece, c));
+    } while (sound && r.body.state == QZ_MORE && at < c->a.length);
+    sound = sound && as_in_one(r.body, c);
+    x = answer(r.body.number, r.body.place, c->a.length, sound);
+    x.front = sound ? filled(r.pieces) : 0;
+    return x;
+}
+
+static size_t draw_field(size_t room)
+{
+    switch (below(3)) {
+    case 0:
+        return (size_t)draw_number();
+    case 1:
+        return below(room + 1);
+    default:
+        return below(NEAR);
+    }
+}
+
+/* Numbers in every field; many of them are such as a call could have given. */
+static QzPieces draw_pieces(size_t room)
+{
+    QzPieces p;
+    p.position = (uint8_t)(below(8) == 0 ? word() : below(9));
+    p.part = (uint8_t)(below(8) == 0 ? word() : below(10));
+    p.size = draw_field(room);
+    p.length = below(2) == 0 ? draw_length() : draw_field(room);
+    p.total = draw_field(room);
+    p.taken = below(4) == 0 ? FRAMED_LIMIT - below(SHORT) : draw_field(room);
+    p.room = below(8) == 0 ? draw_field(room) : room;
+    p.refused = below(2) == 0 ? 0 : below(2) == 0 ? below(NUMBERS + 1) : draw_field(room);
+    return p;
+}
+
+/* One call on any numbers, and invalid ones on what it gave. */
+static Answer feed_any(const Call *c)
+{
+    bool sound = true;
+    Block piece = lend_piece(c->a.bytes, c->a.length < ARENA ? c->a.length : ARENA);
+    QzFed r = feed(draw_pieces(c->out.length), piece, below(8) == 0 ? 0 : draw_quota(piece.length), c->out, c, &sound);
+    Answer x;
+    sound = sound && (r.body.state == QZ_MORE || is_invalid(r.body) || repeats(r, piece, c));
+    sound = sound && changes_nothing(r.pieces, piece, c);
+    x = answer(r.body.number, r.body.place, FRAMED_LIMIT + 1, sound);
+    x.front = sound && !is_invalid(r.body) ? filled(r.pieces) : 0;
+    return x;
+}
+
+static Answer call_qz_pieces_feed(const Call *c)
+{
+    return below(2) == 0 ? feed_all(c) : feed_any(c);
 }
 
 /* ---- checks */
@@ -565,11 +787,11 @@ static bool input_kept(const Block *input, const uint8_t *draft)
 /* Only the written front of the output has changed; it is then put back. */
 static bool output_kept(const Block *out, size_t front)
 {
-    size_t start = (size_t)(out->bytes - arenas[2]);
+    size_t start = (size_t)(out->bytes - arenas[OUTPUT]);
     size_t end = start + out->length;
     size_t from = start < MARGIN ? 0 : start - MARGIN;
     size_t to = ARENA - end < MARGIN ? ARENA : end + MARGIN;
-    bool before = memcmp(arenas[2] + from, untouched + from, start - from) == 0;
+    bool before = memcmp(arenas[OUTPUT] + from, untouched + from, start - from) == 0;
     bool behind = memcmp(out->bytes + front, untouched + start + front, to - start - front) == 0;
     memcpy(out->bytes, untouched + start, front);
     return before && behind;
@@ -616,6 +838,15 @@ static uint64_t round_now;
 static Call call_now;
 static uint64_t calls[COUNT][NUMBERS];
 
+static void show_feeding(void)
+{
+    QzPieces p = feeding.pieces;
+    fprintf(stderr, "position %u, part %u, size %zu, length %zu, total %zu, taken %zu, room %zu, refused %zu\n",
+            (unsigned)p.position, (unsigned)p.part, p.size, p.length, p.total, p.taken, p.room, p.refused);
+    fprintf(stderr, "quota %zu, output lent: %zu bytes\n", feeding.quota, feeding.out.length);
+    show("piece", &feeding.piece);
+}
+
 static void show_call(void)
 {
     fprintf(stderr, "seed %" PRIu64 ", round %" PRIu64 ", %s\n", seed, round_now, entries[round_now % COUNT].name);
@@ -623,6 +854,9 @@ static void show_call(void)
     show("first input", &call_now.a);
     show("second input", &call_now.b);
     fprintf(stderr, "output: %zu bytes\n", call_now.out.length);
+    if (entries[round_now % COUNT].call == call_qz_pieces_feed) {
+        show_feeding();
+    }
 }
 
 /* The sanitizer calls it before its report. */

@@ -29,8 +29,7 @@ use Rattle.chunk_writer.proofs.Bodies.{Pieces, size-many, size-value}
 
 -- ## Steps
 hex-no-cr : (b : ℕ) → hex? b ≡ true → eqb b 13 ≡ false
-unfolding hex?
-hex-no-cr b h = ne-eqb b 13 (λ e. let z : _≡_ {A = ℕ} 0 1 = cc (h, ap hex? e) in omega arith)
+hex-no-cr b h = ne-eqb b 13 (Turns.digit-no-cr b h)
 
 step-first : (b t : ℕ) → hex? b ≡ true → step (Line First 0 t) b ≡ Line (Size (0 * 16 + hex-value b)) 1 t
 unfolding step lineStep

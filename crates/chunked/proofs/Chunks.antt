@@ -1,102 +1,35 @@
 -- Over a chunk at a stroke: its line, where that is known to be one, its data, and the CR LF behind it.
 use mathlib.Core.Path.{_≡_, sym, _∙_, ap, subst}
 use mathlib.Core.Bool.{true}
-use mathlib.Core.List.{List, [], _∷_, _++_, append-assoc}
+use mathlib.Core.List.{List, [], _∷_}
 use mathlib.Core.Option.{some}
-use Prim.Native.Nat.{ℕ, zero, suc, _+_, _-_, _<_, _≤_}
+use Prim.Native.Nat.{ℕ, _+_, _-_, _<_, _≤_}
 use native.Mathlib.Decide.{decLe}
 use native.Mathlib.Omega.{arith}
-use lib.ListN.{length, getD, take, drop, length-append, length-drop, take-append-drop}
-use lib.Seq.{drop-drop, getD-drop, getD-append-seam, getD-append-add, length-take-le}
+use lib.ListN.{length, getD, take, drop, length-drop}
+use lib.Seq.{length-take-le}
 use Rattle.framing.specs.Answer as Framing
-use Rattle.framing.specs.Grammar.{LINE_LIMIT}
-use Rattle.framing.specs.declared.LinePos.{LinePos}
 use Rattle.framing.specs.declared.LinePos.the-variants.{First}
 use Rattle.framing.specs.declared.State.the-variants.{Line, Data, DataCr, DataLf}
-use Rattle.framing.specs.helpers.Machine.{lineStep, lineLive, lineEnds, step}
 use Rattle.framing.specs.Reading.{decode}
-use Rattle.framing.proofs.Cases.{false-true}
-use Rattle.framing.proofs.Scanning.{run-live}
-use Rattle.framing.proofs.Lines.{lineRun, line-sound, line-dead, line-no-cr, line-ends-live}
-use Rattle.framing.proofs.Rooms.{sizeOf, ends-size, size-grows}
 use Rattle.octets.specs.Same.{same?}
 use Rattle.octets.proofs.SameBytes.{same-list}
 use Rattle.chunked.specs.declared.LastLine.{LastLine}
 use Rattle.chunked.specs.declared.Found.the-variants as Found
 use Rattle.chunked.specs.helpers.Passes.{At, LineAt, LineRead, Known, CrlfAt, ChunkAt, ChunkRead}
-use Rattle.chunked.proofs.Passes.{at-next, at-more, at-refuse, data-fits}
+use Rattle.framing.proofs.Passing.{Passes, octets-part, passes-size, passes-data, passes-part}
+use Rattle.chunked.proofs.Passes.{at-next, at-more, at-refuse, at-along, data-fits}
 use Rattle.framing.proofs.Turns as Turns
 
 module _ {room : ℕ} {xs : List ℕ} where
   -- ## A known line
-  -- over bytes that stand in a line, to the position that they lead to
-  walk : (l r : List ℕ) (p : LinePos) (k t i : ℕ) → At room xs (Line p k t) i → drop i xs ≡ l ++ r → lineLive (lineRun p l) ≡ true
-      → k + length l ≤ LINE_LIMIT → t + sizeOf (lineRun p l) ≤ room → At room xs (Line (lineRun p l) (k + length l) t) (i + length l)
-  walk [] r p k t i at e a short fits =
-      let x : k ≡ k + 0 = omega arith in
-      let y : i ≡ i + 0 = omega arith in
-      subst (λ (n : ℕ). At room xs (Line p n t) (i + 0)) x (subst (At room xs (Line p k t)) y at)
-  walk (b ∷ l) r p k t i at e a short fits =
-      let lt : i < length xs = omega (arith, ap length e, length-drop i xs) in
-      let g : getD xs i 0 ≡ b
-      = ap (λ (n : ℕ). getD xs n 0) (omega arith) ∙ sym (getD-drop i xs 0 0) ∙ ap (λ (z : List ℕ). getD z 0 0) e in
-      let alive : lineLive (lineStep p b) ≡ true = run-live lineStep lineLive line-dead (lineStep p b) l a in
-      let x : suc k + length l ≡ k + suc (length l) = omega arith in
-      let y : i + 1 + length l ≡ i + suc (length l) = omega arith in
-      subst (λ (n : ℕ). At room xs (Line (lineRun (lineStep p b) l) n t) (i + suc (length l))) x
-      (subst (At room xs (Line (lineRun (lineStep p b) l) (suc k + length l) t)) y
-      (walk l r (lineStep p b) (suc k) t (i + 1)
-      (at-next at lt
-      (ap (step (Line p k t)) g
-      ∙ Turns.line-step b p k t (λ z. false-true (sym (line-no-cr p) ∙ subst (λ (n : ℕ). lineLive (lineStep p n) ≡ true) z alive)))
-      (Turns.line-quiet room (lineStep p b) (suc k) t alive (omega arith) (omega (arith, size-grows (lineStep p b) l))))
-      (sym (drop-drop 1 i xs) ∙ ap (drop 1) e) a (omega arith) fits))
-
   -- over a line and its CR LF, to its data
   pub line-on : {t i w v : ℕ} → At room xs (Line First 0 t) i → 0 < v → LineAt xs i w v (13 ∷ 10 ∷ []) → t + v ≤ room
       → At room xs (Data (v - 1) (t + v)) (i + w)
   line-on {t} {i} {w} {v} at pos l fits =
-      let p : LinePos = lineRun First (l .text) in
-      let n : length (l .text) + 2 ≡ w
-      = omega (
-        arith,
-        length-take-le w (drop i xs) (omega (arith, l .inside, length-drop i xs)),
-        ap length (l .split),
-        length-append (l .text) (13 ∷ 10 ∷ []),
-      ) in
-      let e : drop i xs ≡ l .text ++ (13 ∷ 10 ∷ drop w (drop i xs))
-      = sym (take-append-drop w (drop i xs)) ∙ ap (λ (z : List ℕ). z ++ drop w (drop i xs)) (l .split)
-      ∙ append-assoc (l .text) (13 ∷ 10 ∷ []) (drop w (drop i xs)) in
-      let s : lineEnds (lineRun First (l .text)) ≡ some v = line-sound (l .line) in
-      let m : 0 + length (l .text) ≡ length (l .text) = omega arith in
-      let here : At room xs (Line (lineRun First (l .text)) (0 + length (l .text)) t) (i + length (l .text))
-      = walk (l .text) (13 ∷ 10 ∷ drop w (drop i xs)) First 0 t i at e (line-ends-live (lineRun First (l .text)) v s)
-      (omega (arith, l .short))
-      (omega (arith, ends-size (lineRun First (l .text)) v s)) in
-      let cr : getD xs (i + length (l .text)) 0 ≡ 13 = at-end 13 (10 ∷ drop w (drop i xs)) e in
-      let z : i + length (l .text) + 1 + 1 ≡ i + w = omega arith in
-      subst (At room xs (Data (v - 1) (t + v))) z
-      (at-next
-      (at-next here (omega (arith, l .inside))
-      (Turns.line-cr (getD xs (i + length (l .text)) 0) (lineRun First (l .text)) (0 + length (l .text)) t cr
-      ∙ Turns.leave-some v t (lineEnds (lineRun First (l .text))) s) (Turns.quiet-feed room v t))
-      (omega (arith, l .inside))
-      (Turns.feed-lf (getD xs (i + length (l .text) + 1) 0) v t (at-next-end e) ∙ Turns.enter-data v t pos)
-      (Turns.quiet-data room (v - 1) (t + v)))
-    where
-      at-end : (b : ℕ) (r : List ℕ) → drop i xs ≡ l .text ++ (b ∷ r) → getD xs (i + length (l .text)) 0 ≡ b
-      at-end b r e =
-          sym (getD-drop i xs (length (l .text)) 0)
-          ∙ ap (λ (y : List ℕ). getD y (length (l .text)) 0) e
-          ∙ getD-append-seam (l .text) b r 0
-
-      at-next-end : drop i xs ≡ l .text ++ (13 ∷ 10 ∷ drop w (drop i xs)) → getD xs (i + length (l .text) + 1) 0 ≡ 10
-      at-next-end e =
-          let a : i + length (l .text) + 1 ≡ i + (length (l .text) + 1) = omega arith in
-          ap (λ (n : ℕ). getD xs n 0) a
-          ∙ sym (getD-drop i xs (length (l .text) + 1) 0)
-          ∙ ap (λ (y : List ℕ). getD y (length (l .text) + 1) 0) e
-          ∙ getD-append-add (l .text) (13 ∷ 10 ∷ drop w (drop i xs)) 1 0
+      at-along at w (l .inside)
+      (subst (λ (z : List ℕ). Passes room (Line First 0 t) z [] (Data (v - 1) (t + v))) (sym (l .split))
+      (passes-size t (l .line) pos (l .short) fits))
 
   -- ## The CR LF
   module _ {t e : ℕ} (at : At room xs (DataCr t) e) where
@@ -117,35 +50,24 @@ module _ {room : ℕ} {xs : List ℕ} where
 
   -- ## The data
   module _ (bytes : (k : ℕ) → getD xs k 0 < 256) where
-    skip : (m t i : ℕ) → At room xs (Data m t) i → i + m < length xs → At room xs (DataCr t) (i + m + 1)
-    skip zero t i at h =
-        let z : i + 1 ≡ i + 0 + 1 = omega arith in
-        subst (At room xs (DataCr t)) z (at-next at (omega arith) (Turns.data-last (getD xs i 0) t (bytes i)) (Turns.quiet-data-cr room t))
-    skip (suc m) t i at h =
-        let z : i + 1 + m + 1 ≡ i + suc m + 1 = omega arith in
-        subst (At room xs (DataCr t)) z
-        (skip m t (i + 1) (at-next at (omega arith) (Turns.data-more (getD xs i 0) m t (bytes i)) (Turns.quiet-data room m t))
-        (omega arith))
-
-    starved : (left m t i : ℕ) → i + left ≡ length xs → left ≤ m → At room xs (Data m t) i → Framing.more ≡ decode room xs
-    starved zero m t i e h at = at-more at (omega arith)
-    starved (suc left) zero t i e h at = absurd (omega arith)
-    starved (suc left) (suc m) t i e h at =
-        starved left m t (i + 1) (omega arith) (omega arith)
-        (at-next at (omega arith) (Turns.data-more (getD xs i 0) m t (bytes i)) (Turns.quiet-data room m t))
-
     module _ {v t j : ℕ} (pos : 0 < v) (at : At room xs (Data (v - 1) t) j) where
       pub data-on : j + v ≤ length xs → At room xs (DataCr t) (j + v)
       data-on h =
-          let z : j + (v - 1) + 1 ≡ j + v = omega arith in
-          subst (At room xs (DataCr t)) z (skip (v - 1) t j at (omega arith))
+          at-along at v h (passes-data (take v (drop j xs)) (v - 1) t (octets-part j v xs bytes)
+          (omega (arith, length-take-le v (drop j xs) (omega (arith, length-drop j xs)))))
 
       pub data-more : length xs - j ≤ v → Framing.more ≡ decode room xs
       data-more h = go (decLe v (length xs - j))
         where
+          rest : length (take (length xs - j) (drop j xs)) ≡ length xs - j
+          rest = length-take-le (length xs - j) (drop j xs) (omega (arith, length-drop j xs))
+
           go : Dec (v ≤ length xs - j) → Framing.more ≡ decode room xs
           go (yes g) = at-more (data-on (omega (arith, at .within))) (omega (arith, at .within))
-          go (no g) = starved (length xs - j) (v - 1) t j (omega (arith, at .within)) (omega arith) at
+          go (no g) =
+              at-more (at-along at (length xs - j) (omega (arith, at .within))
+              (passes-part (take (length xs - j) (drop j xs)) (v - 1) t (octets-part j (length xs - j) xs bytes) (omega (arith, rest))))
+              (omega (arith, at .within))
 
     -- over a chunk
     pub chunk-on : {t i w v : ℕ} → At room xs (Line First 0 t) i → ChunkAt xs i w v → t + v ≤ room

@@ -5,12 +5,11 @@ use mathlib.Core.List.{List, [], _∷_, _++_, append-assoc}
 use mathlib.Core.Option.{none, some}
 use Prim.Native.Nat.{ℕ, suc, _+_, _-_, _*_, _<_, _≤_}
 use native.Mathlib.Omega.{arith}
-use lib.Dec.{eqb, ltb}
+use lib.Dec.{eqb}
 use lib.ListN.{length, getD, take, drop, length-drop}
 use lib.Seq.{take-suc, getD-drop, length-take-le}
-use borrow.Author.Tests.{ltb-true}
 use Rattle.octets.specs.Bytes.{hex?, hex-value}
-use Rattle.octets.proofs.Spans.{by-range}
+use Rattle.octets.proofs.Bytes.{is-hex, no-hex}
 use Rattle.framing.specs.Answer as Framing
 use Rattle.framing.specs.Grammar.{LINE_LIMIT, TRAILER_LIMIT}
 use Rattle.framing.specs.declared.ExtPos.{ExtPos}
@@ -19,41 +18,11 @@ use Rattle.framing.specs.declared.LinePos.the-variants.{First, Size, Ext}
 use Rattle.framing.specs.declared.State.the-variants.{Line, LineFeed, Data, Trail, EndLf}
 use Rattle.framing.specs.helpers.Machine.{extensions, lineStep, lineEnds, TrailerAt, trailer, step, live, tell}
 use Rattle.framing.specs.Reading.{decode}
-use Rattle.framing.proofs.Cases.{false-true}
 use Rattle.framing.proofs.Scanning.{run-append}
 use Rattle.framing.proofs.Lines.{lineRun, line-complete}
 use Rattle.chunked.specs.helpers.Passes.{At, SizeRead, LineAt}
 use Rattle.chunked.proofs.Passes.{at-next, at-refuse, at-end, first-fits, line-short}
 use Rattle.framing.proofs.Turns as Turns
-
--- ## Digits
-hex-small : ℕ → Bool
-hex-small b = cond (hex? b) (ltb (hex-value b) 16) true
-
-always : ℕ → Bool
-always b = true
-
-module _ (b d : ℕ) (e : d ≡ cond (hex? b) (hex-value b) 16) where
-  pub is-hex : d ≤ 15 → (hex? b ≡ true) × (d ≡ hex-value b)
-  is-hex h = go (hex? b) refl e
-    where
-      go : (t : Bool) → hex? b ≡ t → d ≡ cond t (hex-value b) 16 → (hex? b ≡ true) × (d ≡ hex-value b)
-      go true f g = (f, g)
-      go false f g = absurd (omega arith)
-
-  pub no-hex : b < 256 → 15 < d → hex? b ≡ false
-  unfolding hex? hex-small always
-  no-hex small h = go (hex? b) refl e (by-range always hex-small 0 256 refl b (omega arith) (omega arith))
-    where
-      go : (t : Bool) → hex? b ≡ t → d ≡ cond t (hex-value b) 16 → true ≡ cond t (ltb (hex-value b) 16) true → hex? b ≡ false
-      go true f g s = absurd (omega (arith, ltb-true (hex-value b) 16 (sym s)))
-      go false f g s = f
-
-no-cr : (b : ℕ) → hex? b ≡ true → b ≡ 13 → ⊥
-no-cr b h e = false-true (sym (ap hex? e ∙ thirteen) ∙ h)
-  where
-    thirteen : hex? 13 ≡ false
-    thirteen = unfold hex? in refl
 
 -- ## The bytes of a line
 module _ (xs : List ℕ) (i j : ℕ) (starts : i ≤ j) (lt : j < length xs) where
@@ -138,7 +107,7 @@ module _ {room : ℕ} {xs : List ℕ} {i t : ℕ} where
 
       digit-step : step (Line (h .pos) (j - i) t) b ≡ Line (Size (v * 16 + d)) (suc (j - i)) t
       digit-step =
-          Turns.line-step b (h .pos) (j - i) t (no-cr b (is-hex b d e low .0)) ∙ ap (λ (p : LinePos). Line p (suc (j - i)) t) digit-turn
+          Turns.line-step b (h .pos) (j - i) t (Turns.digit-no-cr b (is-hex b d e low .0)) ∙ ap (λ (p : LinePos). Line p (suc (j - i)) t) digit-turn
 
       pub size-long : j - i ≡ LINE_LIMIT → Framing.refused 5 j ≡ decode room xs
       size-long z = at-refuse (h .at) lt digit-step (Turns.size-five room (v * 16 + d) (suc (j - i)) t (omega arith))

@@ -1,22 +1,23 @@
 -- A pass over the input: from a place and a state to the next, or to the answer.
 use mathlib.Core.Path.{_≡_, refl, sym, _∙_, ap, subst}
-use mathlib.Core.List.{List, [], _∷_}
+use mathlib.Core.List.{List, [], _∷_, _++_}
 use mathlib.Core.Option.{none, some}
 use Prim.Native.Nat.{ℕ, zero, suc, _+_, _<_, _≤_}
 use native.Mathlib.Numerals.{add-one}
 use native.Mathlib.Omega.{arith}
-use lib.ListN.{length, getD, take}
-use lib.Seq.{take-suc, take-take, length-take-le}
+use lib.ListN.{length, getD, take, drop}
+use lib.Seq.{take-suc, take-take, take-add, length-take-le}
 use Rattle.framing.specs.Answer as Framing
 use Rattle.framing.specs.Grammar.{LINE_LIMIT}
 use Rattle.framing.specs.declared.State.{State}
 use Rattle.framing.specs.declared.LinePos.{LinePos}
 use Rattle.framing.specs.declared.LinePos.the-variants.{First}
 use Rattle.framing.specs.declared.State.the-variants.{Line, LineFeed, Data}
-use Rattle.framing.specs.helpers.Machine.{End, step, live, done, lineLive, pastRoom, start, tell}
+use Rattle.framing.specs.helpers.Machine.{End, step, live, done, lineLive, pastRoom, start, tell, sizeOf}
 use Rattle.framing.specs.helpers.Scan.{Verdict, ended, refusal, stop, run, scan, answer, Quiet}
 use Rattle.framing.specs.Reading.{judge, decode}
-use Rattle.framing.proofs.Scanning.{run-append, quiet-on, quiet-going, stops-stop}
+use Rattle.framing.proofs.Scanning.{run-append, quiet-on, quiet-then, quiet-going, stops-stop}
+use Rattle.framing.proofs.Passing.{Passes}
 use Rattle.framing.specs.Grammar.{limits}
 use Rattle.framing.proofs.Judging.{quiet-fits, quiet-line}
 use Rattle.chunked.specs.declared.Answer.{Answer}
@@ -24,7 +25,7 @@ use Rattle.chunked.specs.declared.Answer.the-variants as Answer
 use Rattle.framing.specs.declared.Whole.{Whole}
 use Rattle.chunked.specs.Verdict.{verdict}
 use Rattle.chunked.specs.helpers.Passes.{At, Last}
-use Rattle.framing.proofs.Rooms.{sizeOf, Fits, ShortLine}
+use Rattle.framing.proofs.Rooms.{Fits, ShortLine}
 
 pub begins : (room : ℕ) → judge room start ≡ none
 unfolding judge live lineLive done pastRoom
@@ -85,6 +86,24 @@ module _ {room : ℕ} {xs : List ℕ} where
         unfolding judge decode answer
         at-end {e} h = ap (λ (k : ℕ). Framing.whole (tell k e)) (add-one i) ∙ sym (ap (answer tell) (at-stop (ended e) h))
 
+  -- over several bytes with no verdict on the way
+  pub at-along : {s s′ : State} {d : List ℕ} {i : ℕ} → At room xs s i → (n : ℕ) → i + n ≤ length xs
+      → Passes room s (take n (drop i xs)) d s′ → At room xs s′ (i + n)
+  at-along {s} {s′} {d} {i} at n h p =
+      let x : List ℕ = take n (drop i xs) in
+      let e : take (i + n) xs ≡ take i xs ++ x = take-add i n xs in
+      let q : Quiet step (judge room) start (take i xs ++ x) (length (take i xs ++ x))
+      = quiet-then step (judge room) start (take i xs) x (before at)
+      (subst (λ (z : State). Quiet step (judge room) z x (length x)) (sym (at .reached)) (p .quiet)) in
+      record {
+        within = h;
+        quiet = λ j l.
+            ap (λ (z : List ℕ). judge room (run step start z)) (sym (take-take j (i + n) xs l) ∙ ap (take j) e)
+            ∙ q j (omega (arith, l, ap length e, length-take-le (i + n) xs h));
+        reached = ap (run step start) e ∙ run-append step start (take i xs) x ∙ ap (λ (z : State). run step z x) (at .reached)
+            ∙ p .goes .ends;
+      }
+
   pub line-fits : {p : LinePos} {k t i : ℕ} → At room xs (Line p k t) i → t + sizeOf p ≤ room
   unfolding Fits
   line-fits at = at-fits at
@@ -94,7 +113,6 @@ module _ {room : ℕ} {xs : List ℕ} where
   line-short at = at-short at
 
   pub first-fits : {t i : ℕ} → At room xs (Line First 0 t) i → t ≤ room
-  unfolding sizeOf
   first-fits at = omega (arith, line-fits at)
 
   pub feed-fits : {v t i : ℕ} → At room xs (LineFeed v t) i → t + v ≤ room

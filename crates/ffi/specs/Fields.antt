@@ -3,8 +3,11 @@ use Prim.Native.Nat.{ℕ}
 use mathlib.Core.Bool.{Bool, false}
 use Rattle.grammar.specs.Reading.{Verdict, value, refused}
 use Rattle.grammar.specs.Comparing.{Comparison, outcome, refused-at}
+use Rattle.framing.specs.declared.Whole.{Whole}
+use Rattle.framing.specs.Answer as Body
 use Rattle.ffi.specs.declared.QzSame.{QzSame}
 use Rattle.ffi.specs.declared.QzWritten.{QzWritten}
+use Rattle.ffi.specs.declared.QzBody.{QzBody}
 
 abbrev pub same-fields : Comparison Bool → QzSame
 same-fields (outcome b) = record { number = 0; place = 0; which = 0; same = b }
@@ -13,3 +16,8 @@ same-fields (refused-at w n p) = record { number = n; place = p; which = w; same
 abbrev pub written-fields : Verdict ℕ → QzWritten
 written-fields (value n) = record { number = 0; place = 0; length = n }
 written-fields (refused n p) = record { number = n; place = p; length = 0 }
+
+abbrev pub body-fields : Body.Answer Whole → QzBody
+body-fields (Body.whole w) = record { state = 0; number = 0; place = 0; taken = w .taken; length = w .length }
+body-fields Body.more = record { state = 1; number = 0; place = 0; taken = 0; length = 0 }
+body-fields (Body.refused n p) = record { state = 2; number = n; place = p; taken = 0; length = 0 }

@@ -2,8 +2,9 @@
 //
 // Bytes are a pointer and a length. A length of 0 may come with any pointer, null included; nothing is read or written through it. An
 // output overlaps no input. Readers of header values take the value whole: the caller trims outer blanks. Writers write at the front of
-// the output, keep the rest and give the length; the chunked reader writes the body there. A refusal writes nothing, nor does "more". No
-// function keeps anything between calls: any number of threads may call them, each on bytes of its own or on inputs that they share.
+// the output, keep the rest and give the length; the chunked reader writes the body there. A refusal writes nothing, nor does "more"; the
+// reader in pieces alone writes data as it comes. No function keeps anything between calls: any number of threads may call them, each on
+// bytes of its own or on inputs that they share.
 //
 // In each struct `number` is 0 where there is an answer, otherwise one of the refusal numbers; a field that has no meaning then is 0.
 // Places count from 0.
@@ -11,8 +12,11 @@ ghost use mathlib.Core.Path.{_≡_};
 ghost use Rattle.grammar.specs.Comparing.{outcome, refused-at};
 ghost use Rattle.octets.specs.Comparing.{comparison};
 ghost use Rattle.octets.specs.Writing.{written};
+ghost use Rattle.chunked.specs.Verdict.{verdict};
 ghost use Rattle.ffi.specs.Fields.{same-fields};
 ghost use Rattle.ffi.specs.Fields.{written-fields};
+ghost use Rattle.ffi.specs.Fields.{body-fields};
+use chunked::Answer;
 use octets::Refusal;
 use octets::Written;
 
@@ -32,6 +36,26 @@ pub struct QzWritten {
     pub number: u8,
     pub place: usize,
     // how many bytes were written
+    pub length: usize,
+}
+
+// QzBody.state.
+pub const WHOLE: u8 = 0;
+
+pub const MORE: u8 = 1;
+
+pub const REFUSED: u8 = 2;
+
+// What the reader of chunked bodies answers.
+#[repr(C)]
+pub struct QzBody {
+    // QZ_WHOLE, QZ_MORE or QZ_REFUSED
+    pub state: u8,
+    pub number: u8,
+    pub place: usize,
+    // how many bytes of the input are the body
+    pub taken: usize,
+    // how many bytes of data were written
     pub length: usize,
 }
 
@@ -84,6 +108,35 @@ pub fn written_fields(w: Written) -> QzWritten
         Written::Refused(r) => QzWritten {
             number: r.number,
             place: r.place,
+            length: 0,
+        },
+    }
+}
+
+// The answer of a reader of bodies, as C sees it.
+pub fn body_of(a: Answer) -> QzBody
+    ensures { λ r. ⌜ r ≡ body-fields (verdict a) ⌝ }
+{
+    match a {
+        Answer::Whole(body) => QzBody {
+            state: WHOLE,
+            number: 0,
+            place: 0,
+            taken: body.taken,
+            length: body.length,
+        },
+        Answer::More => QzBody {
+            state: MORE,
+            number: 0,
+            place: 0,
+            taken: 0,
+            length: 0,
+        },
+        Answer::Refused(r) => QzBody {
+            state: REFUSED,
+            number: r.number,
+            place: r.place,
+            taken: 0,
             length: 0,
         },
     }

@@ -26,7 +26,7 @@ pub under : (ls : List ℕ) → (Among ls MALFORMED → ⊥) → (Early : List �
     → Decodes (chunked ls) Early (decode-by machine tell ls) (λ r s. decoded-by machine tell ls r early s)
 under ls other = Machines.decodes (chunked ls) machine tell (λ r. laws ls r other) same lifts
 
-malformed-no-limit : Among limits MALFORMED → ⊥
+pub malformed-no-limit : Among limits MALFORMED → ⊥
 malformed-no-limit a = omega arith
 
 -- "at one byte: 1, 5, 6, 7"; the byte that gets 1 leaves no continuation, so that it breaks no limit (`broken-live`)

@@ -32,12 +32,14 @@ pub record Goes (s : State) (xs d : List ℕ) (s′ : State) : Type 0 where
 pub stay : (s : State) → Goes s [] [] s
 stay s = record { ends = refl; gives = refl }
 
+pub gives-then : {s s′ : State} {xs d : List ℕ} → Goes s xs d s′ → (ys : List ℕ) → out step emit s (xs ++ ys) ≡ d ++ out step emit s′ ys
+gives-then {s} {xs = xs} g ys =
+    out-append step emit s xs ys ∙ ap₂ (λ (a : List ℕ) (z : State). a ++ out step emit z ys) (g .gives) (g .ends)
+
 pub then : {s s′ s″ : State} {xs ys d e : List ℕ} → Goes s xs d s′ → Goes s′ ys e s″ → Goes s (xs ++ ys) (d ++ e) s″
 then {s} {s′} {s″} {xs} {ys} {d} {e} g h = record {
   ends = run-append step s xs ys ∙ ap (λ (z : State). run step z ys) (g .ends) ∙ h .ends;
-  gives = out-append step emit s xs ys
-      ∙ ap (λ (z : State). out step emit s xs ++ out step emit z ys) (g .ends)
-      ∙ ap₂ (λ (a b : List ℕ). a ++ b) (g .gives) (h .gives);
+  gives = gives-then g ys ∙ ap (λ (a : List ℕ). d ++ a) (h .gives);
 }
 
 pub byte : (s : State) {s′ s″ : State} (b : ℕ) {xs a d : List ℕ} → step s b ≡ s′ → emit s b ≡ a → Goes s′ xs d s″
@@ -53,7 +55,7 @@ unfolding step
 step-line p b k t h = to-cond (λ (s : State). s ≡ Line (lineStep p b) (suc k) t) (eqb b 13)
     (λ e. false-true (sym (line-no-cr p) ∙ rw (eqb-true b 13 e) at h)) (λ _. refl)
 
-emit-line : (p : LinePos) (b k t : ℕ) → emit (Line p k t) b ≡ []
+pub emit-line : (p : LinePos) (b k t : ℕ) → emit (Line p k t) b ≡ []
 unfolding emit
 emit-line p b k t = refl
 
@@ -74,7 +76,7 @@ feed-lf : (v t : ℕ) → step (LineFeed v t) 10 ≡ enterChunk v t
 unfolding step
 feed-lf v t = refl
 
-emit-feed : (v t b : ℕ) → emit (LineFeed v t) b ≡ []
+pub emit-feed : (v t b : ℕ) → emit (LineFeed v t) b ≡ []
 unfolding emit
 emit-feed v t b = refl
 
@@ -98,7 +100,7 @@ step-data : (m t b : ℕ) → octet? b ≡ true → step (Data (suc m) t) b ≡ 
 unfolding step
 step-data m t b h = rw h refl
 
-emit-data : (m t b : ℕ) → emit (Data m t) b ≡ b ∷ []
+pub emit-data : (m t b : ℕ) → emit (Data m t) b ≡ b ∷ []
 unfolding emit
 emit-data m t b = refl
 
@@ -110,6 +112,15 @@ goes-data zero t (G.more k (G.more k′ ks)) h = absurd (omega arith)
 goes-data (suc m) t (G.more {b = b} k (G.more k′ ks)) h =
     byte (Data (suc m) t) b (step-data m t b k) (emit-data (suc m) t b) (goes-data m t (G.more k′ ks) (omega arith))
 
+-- a beginning of the data gives itself
+pub gives-begun : (m t : ℕ) (x y : List ℕ) → Many octet? (x ++ y) → length (x ++ y) ≡ suc m → out step emit (Data m t) x ≡ x
+unfolding emit
+gives-begun m t [] y k h = refl
+gives-begun zero t (b ∷ []) y k h = refl
+gives-begun zero t (b ∷ b′ ∷ x) y k h = absurd (omega arith)
+gives-begun (suc m) t (b ∷ x) y (G.more k ks) h =
+    ap (λ (s : State). b ∷ out step emit s x) (step-data m t b k) ∙ ap (λ (z : List ℕ). b ∷ z) (gives-begun m t x y ks (omega arith))
+
 data-cr : (t : ℕ) → step (DataCr t) 13 ≡ DataLf t
 unfolding step
 data-cr t = refl
@@ -118,11 +129,11 @@ data-lf : (t : ℕ) → step (DataLf t) 10 ≡ Line First 0 t
 unfolding step
 data-lf t = refl
 
-emit-cr : (t b : ℕ) → emit (DataCr t) b ≡ []
+pub emit-cr : (t b : ℕ) → emit (DataCr t) b ≡ []
 unfolding emit
 emit-cr t b = refl
 
-emit-lf : (t b : ℕ) → emit (DataLf t) b ≡ []
+pub emit-lf : (t b : ℕ) → emit (DataLf t) b ≡ []
 unfolding emit
 emit-lf t b = refl
 
@@ -211,11 +222,16 @@ goes-trailer {y} t h =
     (goes-close (at trailer (trailer .begin) y) (0 + length y) t e)
 
 -- ## A body
+-- the last chunk, the trailer and what closes it
+pub goes-last : {l y : List ℕ} (t : ℕ) → G.Line l 0 → Trailer y → Goes (Line First 0 t) (l ++ (13 ∷ 10 ∷ (y ++ (13 ∷ 10 ∷ [])))) [] (Done t)
+goes-last {l} {y} t h k =
+    subst (λ (z : List ℕ). Goes (Line First 0 t) z [] (Done t)) (append-assoc l (13 ∷ 10 ∷ []) (y ++ (13 ∷ 10 ∷ [])))
+    (then (goes-last-line t h) (goes-trailer t k))
+
 pub goes-body : {xs d : List ℕ} → Body xs d → Goes start xs d (Done (length d))
 goes-body (G.body {c = c} {d = d} {l = l} {t = t} cs h y) =
-    subst (λ (z : List ℕ). Goes start (c ++ z) d (Done (length d))) (append-assoc l (13 ∷ 10 ∷ []) (t ++ (13 ∷ 10 ∷ [])))
-    (subst (λ (z : List ℕ). Goes start (c ++ ((l ++ (13 ∷ 10 ∷ [])) ++ (t ++ (13 ∷ 10 ∷ [])))) z (Done (length d))) (append-nil d)
-    (then (goes-chunks cs) (then (goes-last-line (length d) h) (goes-trailer (length d) y))))
+    subst (λ (z : List ℕ). Goes start (c ++ (l ++ (13 ∷ 10 ∷ (t ++ (13 ∷ 10 ∷ []))))) z (Done (length d))) (append-nil d)
+    (then (goes-chunks cs) (goes-last (length d) h y))
 
 -- ## Every live state has a completion
 pub record Finish (s : State) : Type 0 where
@@ -249,7 +265,7 @@ finish-first k t =
 finish-cr : (t : ℕ) → Finish (DataCr t)
 finish-cr t = before (goes-crlf t) (finish-first 0 t)
 
-zeros : (n : ℕ) → Many octet? (replicate n 0)
+pub zeros : (n : ℕ) → Many octet? (replicate n 0)
 zeros zero = G.none
 zeros (suc n) = G.more refl (zeros n)
 

@@ -2,6 +2,7 @@ pub mod Cases
 pub mod Ranks
 pub mod Scanning
 pub mod Machines
+pub mod Counting
 pub mod Parts
 pub mod Quoted
 pub mod Exts
@@ -16,5 +17,7 @@ pub mod InTrailer
 pub mod LongTrailer
 pub mod NoRoom
 pub mod Judging
+pub mod SoFar
 pub mod Demands
 pub mod Turns
+pub mod Passing

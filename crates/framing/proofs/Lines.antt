@@ -155,6 +155,12 @@ line-finish (Ext v e) h =
     let f : (u : List ℕ) × (extensions .ends (at extensions e u) ≡ true) = extensions-read .finish e h in
     (f .0, v, rw (run-ext v e (f .0)) (rw (f .1) refl))
 
+-- a live position goes on to a line
+pub line-begun : (l : List ℕ) → lineLive (lineRun First l) ≡ true → (u : List ℕ) × (v : ℕ) × Line (l ++ u) v
+line-begun l h =
+    let f : (u : List ℕ) × (v : ℕ) × (lineEnds (lineRun (lineRun First l) u) ≡ some v) = line-finish (lineRun First l) h in
+    (f .0, f .1, line-complete (l ++ f .0) (f .1) (ap lineEnds (run-append lineStep First l (f .0)) ∙ f .2))
+
 pub line-ends-live : (p : LinePos) (v : ℕ) → lineEnds p ≡ some v → lineLive p ≡ true
 unfolding lineLive lineEnds
 line-ends-live First v h = refl

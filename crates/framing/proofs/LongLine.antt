@@ -2,22 +2,20 @@
 use mathlib.Core.Path.{_≡_, refl, sym, _∙_, ap, subst}
 use mathlib.Core.Bool.{true}
 use mathlib.Core.List.{List, _++_}
-use mathlib.Core.Option.{some}
 use Prim.Native.Nat.{ℕ, suc, _+_}
 use native.Mathlib.Omega.{arith}
 use lib.ListN.{length}
 use borrow.Author.Tests.{eqb-true, eq-eqb}
 use Rattle.grammar.specs.Refusals.{LINE_TOO_LONG}
-use Rattle.framing.specs.declared.LinePos.{LinePos}
 use Rattle.framing.specs.declared.LinePos.the-variants.{First}
 use Rattle.framing.specs.declared.State.{State}
 use Rattle.framing.specs.declared.State.the-variants.{Line, LineFeed, Data, DataCr, DataLf, Trail, EndLf, Done, Dead}
 use Rattle.framing.specs.Grammar as G
 use Rattle.framing.specs.Grammar.{InLine, Broken, LINE_LIMIT}
-use Rattle.framing.specs.helpers.Machine.{lineStep, lineEnds, lineLive, live, done, longLine}
+use Rattle.framing.specs.helpers.Machine.{lineStep, lineLive, live, done, longLine}
 use Rattle.framing.proofs.Cases.{false-true}
 use Rattle.framing.proofs.Scanning.{run-append, run-live}
-use Rattle.framing.proofs.Lines.{lineRun, line-sound, line-complete, line-dead, line-finish, line-ends-live}
+use Rattle.framing.proofs.Lines.{lineRun, line-sound, line-dead, line-begun, line-ends-live}
 use Rattle.framing.proofs.Goes.{then, goes-chunks, goes-line}
 use Rattle.framing.proofs.Past.{Past}
 use Rattle.framing.proofs.Finds.{Finds, Tied}
@@ -38,12 +36,9 @@ long-line-found (G.inLine {d = d} {l = l} u {v = v} cs h) e =
 long-line-broken : (room : ℕ) (s : State) (p d : List ℕ) → longLine s ≡ true → live s ≡ true → Past s p d → Broken room LINE_TOO_LONG p
 unfolding live
 long-line-broken room (Line x k t) p d e a h =
-    let f : (u : List ℕ) × (v : ℕ) × (lineEnds (lineRun x u) ≡ some v) = line-finish x a in
+    let f : (u : List ℕ) × (v : ℕ) × G.Line (h .part ++ u) v = line-begun (h .part) (ap lineLive (h .at) ∙ a) in
     subst (Broken room LINE_TOO_LONG) (sym (h .split))
-    (G.longLine (G.inLine (f .0) (h .are)
-    (line-complete (h .part ++ f .0) (f .1)
-    (ap lineEnds (run-append lineStep First (h .part) (f .0) ∙ ap (λ (z : LinePos). lineRun z (f .0)) (h .at)) ∙ f .2)))
-    (sym (h .count) ∙ eqb-true k (suc LINE_LIMIT) e))
+    (G.longLine (G.inLine (f .0) (h .are) (f .2)) (sym (h .count) ∙ eqb-true k (suc LINE_LIMIT) e))
 long-line-broken room (LineFeed v t) p d e a h = false-true e
 long-line-broken room (Data m t) p d e a h = false-true e
 long-line-broken room (DataCr t) p d e a h = false-true e

@@ -1,6 +1,6 @@
 -- What is asked of a reader, from laws about its machine: a step, a verdict on each state, a completion for each live state.
 -- For any machine that takes one byte at a time, any format, any limits and whatever is told of a whole body.
-use mathlib.Core.Path.{_≡_, refl, sym, _∙_, ap, subst}
+use mathlib.Core.Path.{_≡_, refl, sym, _∙_, ap, subst, subst₂, fun-ext}
 use mathlib.Core.Bool.{Bool, true, false}
 use mathlib.Core.List.{List, [], _∷_, _++_, append-assoc}
 use mathlib.Core.Logic.{_⊎_, inl, inr, ⊎-elim}
@@ -33,13 +33,13 @@ module _ {E : Type 0} where
   judged-none true (some t) none e = none-some (sym e)
   judged-none false d o e = none-some (sym e)
 
-  judged-ended : (l : Bool) (d : Option E) (o : Option ℕ) (t : E) → judgeBy l d o ≡ some (ended t) → d ≡ some t
+  pub judged-ended : (l : Bool) (d : Option E) (o : Option ℕ) (t : E) → judgeBy l d o ≡ some (ended t) → d ≡ some t
   judged-ended true d (some n) t e = not-ended e
   judged-ended true none none t e = none-some e
   judged-ended true (some u) none t e = cc
   judged-ended false d o t e = not-ended e
 
-  judged-refusal : (l : Bool) (d : Option E) (o : Option ℕ) (n : ℕ) → judgeBy l d o ≡ some (refusal n)
+  pub judged-refusal : (l : Bool) (d : Option E) (o : Option ℕ) (n : ℕ) → judgeBy l d o ≡ some (refusal n)
       → ((l ≡ false) × (n ≡ MALFORMED)) ⊎ ((l ≡ true) × (o ≡ some n))
   judged-refusal true d (some m) n e = inr (refl, cc)
   judged-refusal true none none n e = none-some e
@@ -63,7 +63,7 @@ module _ {E : Type 0} where
     whole-of (stop i (ended t)) w e = (i, t, refl, cc)
     whole-of (stop i (refusal m)) w e = let z : _≡_ {A = ℕ} 0 1 = cc in absurd (omega arith)
 
-    refused-of : (f : Found (Verdict E)) (n i : ℕ) → answer tell f ≡ refused n i → f ≡ stop i (refusal n)
+    pub refused-of : (f : Found (Verdict E)) (n i : ℕ) → answer tell f ≡ refused n i → f ≡ stop i (refusal n)
     unfolding answer
     refused-of going n i e = let z : _≡_ {A = ℕ} 0 1 = cc in absurd (omega arith)
     refused-of (stop j (ended s)) n i e = let z : _≡_ {A = ℕ} 0 1 = cc in absurd (omega arith)
@@ -522,3 +522,10 @@ module _ {E S W : Type 0} (f : Format W) (machine : Machine E S) (tell : ℕ →
             ap (λ (z : Found (Verdict E)). written early (out (machine .step) (machine .emit) (machine .start)) z s) e,
           );
     }
+
+-- what is asked of a reader holds of each that gives the same
+pub decodes-along : {W : Type 0} {f : Format W} {Early : List ℕ → List ℕ → Type 0} {decode decode′ : ℕ → List ℕ → Answer W}
+    {decoded decoded′ : ℕ → List ℕ → List ℕ} → ((r : ℕ) (s : List ℕ) → decode′ r s ≡ decode r s)
+    → ((r : ℕ) (s : List ℕ) → decoded′ r s ≡ decoded r s) → Decodes f Early decode decoded → Decodes f Early decode′ decoded′
+decodes-along {f = f} {Early = Early} x y =
+    subst₂ (Decodes f Early) (fun-ext (λ r. fun-ext (λ s. sym (x r s)))) (fun-ext (λ r. fun-ext (λ s. sym (y r s))))

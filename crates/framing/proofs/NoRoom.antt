@@ -16,20 +16,20 @@ use Rattle.framing.specs.declared.State.{State}
 use Rattle.framing.specs.declared.State.the-variants.{Line, LineFeed, Data, DataCr, DataLf, Trail, EndLf, Done, Dead}
 use Rattle.framing.specs.Grammar as G
 use Rattle.framing.specs.Grammar.{Many, valueFrom, AtDigit, Broken}
-use Rattle.framing.specs.helpers.Machine.{lineStep, lineEnds, lineLive, trailer, leaveLine, enterChunk}
+use Rattle.framing.specs.helpers.Machine.{lineStep, lineEnds, lineLive, trailer, leaveLine, enterChunk, sizeOf}
 use Rattle.framing.specs.helpers.Machine.{step, emit, live, done, pastRoom, noRoom, start}
 use Rattle.framing.specs.helpers.Scan.{run, out}
 use Rattle.framing.proofs.Cases.{false-true, by-cond}
 use Rattle.framing.proofs.Scanning.{run-append, run-keeps}
 use Rattle.framing.proofs.Lines.{lineRun, run-digits, run-size, digits-complete}
 use Rattle.framing.proofs.Goes.{then, goes-chunks, goes-line}
-use Rattle.framing.proofs.Past.{InLine, Past, past}
-use Rattle.framing.proofs.Rooms.{sizeOf, Fits, keep-fits}
+use Rattle.framing.proofs.Past.{InLine, Past, past, many-append}
+use Rattle.framing.proofs.Rooms.{Fits, keep-fits}
 use Rattle.framing.proofs.Finds.{Finds}
 
 -- ## Digits
 run-many : {l : List ℕ} → Many hex? l → sizeOf (lineRun First l) ≡ valueFrom 0 l
-unfolding sizeOf lineStep
+unfolding lineStep
 run-many G.none = refl
 run-many (G.more {b = b} {xs = xs} h m) = rw h (ap sizeOf (run-size (0 * 16 + hex-value b) m))
 
@@ -45,11 +45,7 @@ size-many (G.size h) = (many-some h, refl)
 
 many-size : (l : List ℕ) (b : ℕ) → Many hex? l → hex? b ≡ true → G.Size (l ++ (b ∷ [])) (valueFrom 0 (l ++ (b ∷ [])))
 many-size [] b m h = G.size (G.some h G.none)
-many-size (a ∷ l) b (G.more k m) h = G.size (G.some k (on m))
-  where
-    on : {xs : List ℕ} → Many hex? xs → Many hex? (xs ++ (b ∷ []))
-    on G.none = G.more h G.none
-    on (G.more x y) = G.more x (on y)
+many-size (a ∷ l) b (G.more k m) h = G.size (G.some k (many-append m (G.more h G.none)))
 
 -- do the digits of a size stand last
 abbrev sized : State → Bool
@@ -148,7 +144,7 @@ module _ (room : ℕ) where
   Before p = (i : ℕ) → i ≤ length p → noRoom room (run step start (take i p)) ≡ false
 
   start-fits : Fits room start
-  unfolding Fits sizeOf
+  unfolding Fits
   start-fits = omega arith
 
   pub fits : (p : List ℕ) → Before p → Fits room (run step start p)

@@ -1,11 +1,11 @@
 -- What ties the machine for a part of a body to the grammar's name for that part. For any part.
-use mathlib.Core.Path.{_≡_, refl, sym, _∙_, ap}
+use mathlib.Core.Path.{_≡_, sym, _∙_, ap}
 use mathlib.Core.Bool.{true, false}
-use mathlib.Core.List.{List, [], _∷_, _++_}
+use mathlib.Core.List.{List, _++_}
 use Prim.Native.Nat.{ℕ}
 use Rattle.framing.specs.helpers.Scan.{Part, run}
 use Rattle.framing.proofs.Cases.{false-true}
-use Rattle.framing.proofs.Scanning.{run-append, run-live}
+use Rattle.framing.proofs.Scanning.{run-append, run-live, run-along}
 
 -- the position behind the bytes
 abbrev pub at : {P : Type 0} → Part P → P → List ℕ → P
@@ -48,8 +48,7 @@ pub record Refines {P Q : Type 0} (fine : Part Q) (part : Part P) (place : Q →
 
 module _ {P Q : Type 0} (fine : Part Q) (part : Part P) (place : Q → P) (refines : Refines fine part place) where
   at-place : (q : Q) (xs : List ℕ) → place (at fine q xs) ≡ at part (place q) xs
-  at-place q [] = refl
-  at-place q (b ∷ xs) = at-place (fine .next q b) xs ∙ ap (λ (p : P). at part p xs) (refines .next q b)
+  at-place = run-along (part .next) (fine .next) place (refines .next)
 
   ends-at : (q : Q) (xs : List ℕ) → fine .ends (at fine q xs) ≡ part .ends (at part (place q) xs)
   ends-at q xs = refines .ends (at fine q xs) ∙ ap (part .ends) (at-place q xs)

@@ -100,9 +100,9 @@ Past (EndLf t) pre d = TrailEnd (13 ∷ []) t pre d
 Past (Done t) pre d = Ended t pre d
 Past Dead pre d = Unit {0}
 
-many-on : {q : ℕ → Bool} {xs : List ℕ} {b : ℕ} → Many q xs → q b ≡ true → Many q (xs ++ (b ∷ []))
-many-on G.none h = G.more h G.none
-many-on (G.more k m) h = G.more k (many-on m h)
+pub many-append : {q : ℕ → Bool} {xs ys : List ℕ} → Many q xs → Many q ys → Many q (xs ++ ys)
+many-append G.none m = m
+many-append (G.more h k) m = G.more h (many-append k m)
 
 -- ## A byte on
 module _ (pre d : List ℕ) where
@@ -169,7 +169,7 @@ module _ (pre d : List ℕ) where
     are = h .are;
     is = h .is;
     some = h .some;
-    bytes = many-on (h .bytes) y;
+    bytes = many-append (h .bytes) (G.more y G.none);
     split = ap (λ (z : List ℕ). z ++ (b ∷ [])) (h .split) ∙ simp (append-assoc, append-nil);
     out-is = ap (λ (z : List ℕ). z ++ (b ∷ [])) (h .out-is) ∙ append-assoc (h .done) (h .part) (b ∷ []);
     total = h .total;

@@ -1,9 +1,9 @@
 -- The first of some limits that passes a test, by their ranks.
-use mathlib.Core.Path.{_≡_, refl, sym, _∙_, ap, subst}
+use mathlib.Core.Path.{_≡_, refl, sym, _∙_, ap, ap₂, subst}
 use mathlib.Core.Bool.{Bool, true, false, cond}
-use mathlib.Core.List.{List, [], _∷_}
-use mathlib.Core.Logic.{_⊎_, inl, inr}
-use mathlib.Core.Option.{none, some}
+use mathlib.Core.List.{List, [], _∷_, _++_}
+use mathlib.Core.Logic.{_⊎_, inl, inr, ⊎-elim}
+use mathlib.Core.Option.{Option, none, some}
 use Prim.Native.Nat.{ℕ, suc, _<_, _≤_}
 use native.Mathlib.Omega.{arith}
 use lib.Dec.{eqb}
@@ -24,19 +24,58 @@ same-rank (l ∷ ls) n m a e = go (λ b f. same-rank ls n m b f) (eqb m l) (eqb 
     go on false true p q = absurd (omega (arith, (rw (p, q) at e)))
     go on false false p q = on (omega (arith, (rw q at a))) (omega (arith, (rw (p, q) at e)))
 
+-- the first of some limits is one of them, and so is what is one of those behind it
+among-first : (l n : ℕ) (ls : List ℕ) → n ≡ l → Among (l ∷ ls) n
+among-first l n ls e = rw (eq-eqb n l e) (omega arith)
+
+among-behind : (l n : ℕ) (ls : List ℕ) → Among ls n → Among (l ∷ ls) n
+among-behind l n ls a = go (eqb n l)
+  where
+    go : (x : Bool) → cond x 0 (suc (rank ls n)) < suc (length ls)
+    go true = omega arith
+    go false = omega (arith, a)
+
+-- with one more behind them all, a limit is one of them or that one
+pub among-or : (ls : List ℕ) (one n : ℕ) → Among (ls ++ (one ∷ [])) n → Among ls n ⊎ (n ≡ one)
+among-or [] one n a = go (eqb n one) refl
+  where
+    go : (x : Bool) → eqb n one ≡ x → Among [] n ⊎ (n ≡ one)
+    go true e = inr (eqb-true n one e)
+    go false e = absurd (omega (arith, (rw e at a)))
+among-or (l ∷ ls) one n a = go (λ b. among-or ls one n b) (eqb n l) refl
+  where
+    go : (Among (ls ++ (one ∷ [])) n → Among ls n ⊎ (n ≡ one)) → (x : Bool) → eqb n l ≡ x → Among (l ∷ ls) n ⊎ (n ≡ one)
+    go on true e = inl (among-first l n ls (eqb-true n l e))
+    go on false e = ⊎-elim (λ (b : Among ls n). inl (among-behind l n ls b)) (λ (z : n ≡ one). inr z) (on (omega (arith, (rw e at a))))
+
+-- one, or else the other
+abbrev pub or-else : Option ℕ → Option ℕ → Option ℕ
+or-else none o = o
+or-else (some n) o = some n
+
+pub or-none : (o : Option ℕ) → or-else o none ≡ o
+or-none none = refl
+or-none (some n) = refl
+
 module _ (test : ℕ → Bool) where
+  -- limits behind others count where none of those passes
+  pub first-append : (ls ms : List ℕ) → first test (ls ++ ms) ≡ or-else (first test ls) (first test ms)
+  first-append [] ms = refl
+  first-append (l ∷ ls) ms = go (test l) (first-append ls ms)
+    where
+      go : (x : Bool) → first test (ls ++ ms) ≡ or-else (first test ls) (first test ms)
+          → cond x (some l) (first test (ls ++ ms)) ≡ or-else (cond x (some l) (first test ls)) (first test ms)
+      go true e = refl
+      go false e = e
+
   -- what is found is a limit, and passes
   pub first-passes : (ls : List ℕ) (n : ℕ) → first test ls ≡ some n → Among ls n × (test n ≡ true)
   first-passes [] n e = none-some e
   first-passes (l ∷ ls) n e = go (λ f. first-passes ls n f) (test l) refl
     where
-      behind : (y : Bool) → Among ls n → cond y 0 (suc (rank ls n)) < suc (length ls)
-      behind true a = omega arith
-      behind false a = omega (arith, a)
-
       go : (first test ls ≡ some n → Among ls n × (test n ≡ true)) → (x : Bool) → test l ≡ x → Among (l ∷ ls) n × (test n ≡ true)
-      go on true p = let z : l ≡ n = same-some l n (rw p at e) in (rw (eq-eqb n l (sym z)) (omega arith), ap test (sym z) ∙ p)
-      go on false p = let w : Among ls n × (test n ≡ true) = on (rw p at e) in (behind (eqb n l) (w .0), w .1)
+      go on true p = let z : l ≡ n = same-some l n (rw p at e) in (among-first l n ls (sym z), ap test (sym z) ∙ p)
+      go on false p = let w : Among ls n × (test n ≡ true) = on (rw p at e) in (among-behind l n ls (w .0), w .1)
 
   -- where a limit passes, that one is found or one of a lower rank
   pub first-found : (ls : List ℕ) (n : ℕ) → Among ls n → test n ≡ true → (m : ℕ) × (first test ls ≡ some m) × (rank ls m ≤ rank ls n)
@@ -69,6 +108,13 @@ module _ (test : ℕ → Bool) where
   pub none-first : (ls : List ℕ) → ((n : ℕ) → test n ≡ false) → first test ls ≡ none
   none-first [] f = refl
   none-first (l ∷ ls) f = rw (f l) (none-first ls f)
+
+-- two tests that are the same on the limits find the same
+pub first-agree : (test test′ : ℕ → Bool) (ls : List ℕ) → ((n : ℕ) → Among ls n → test′ n ≡ test n) → first test′ ls ≡ first test ls
+first-agree test test′ [] same = refl
+first-agree test test′ (l ∷ ls) same =
+    ap₂ (λ (x : Bool) (o : Option ℕ). cond x (some l) o) (same l (among-first l l ls refl))
+    (first-agree test test′ ls (λ n a. same n (among-behind l n ls a)))
 
 -- where the limits but one give the same under two tests, and that one passes the first where it passes the second, the first test finds
 -- that one, or both find the same

@@ -14,16 +14,10 @@ use Rattle.framing.specs.declared.LinePos.the-variants.{First, Size, Ext
 use Rattle.framing.specs.declared.State.{State}
 use Rattle.framing.specs.declared.State.the-variants.{Line, LineFeed, Data, DataCr, DataLf, Trail, EndLf, Done, Dead}
 use Rattle.framing.specs.Grammar.{LINE_LIMIT, TRAILER_LIMIT}
-use Rattle.framing.specs.helpers.Machine.{extensions, lineStep, lineEnds, trailer}
+use Rattle.framing.specs.helpers.Machine.{extensions, lineStep, lineEnds, sizeOf, trailer}
 use Rattle.framing.specs.helpers.Machine.{leaveLine, enterChunk, step, longLine, longTrailer, tooLong, pastRoom, noRoom, broke}
 use Rattle.framing.specs.helpers.Scan.{run}
 use Rattle.framing.proofs.Cases.{none-some, by-cond, to-cond}
-
--- the size that a line has read so far
-unfoldable pub sizeOf : LinePos → ℕ
-sizeOf First = 0
-sizeOf (Size v) = v
-sizeOf (Ext v e) = v
 
 -- the data that a state counts is within the room
 unfoldable pub Fits : ℕ → State → Type 0
@@ -62,7 +56,7 @@ ShortTrailer (Done t) = Unit {0}
 ShortTrailer Dead = Unit {0}
 
 pub ends-size : (p : LinePos) (v : ℕ) → lineEnds p ≡ some v → sizeOf p ≡ v
-unfolding lineEnds sizeOf
+unfolding lineEnds
 ends-size First v e = none-some e
 ends-size (Size w) v e = cc
 ends-size (Ext w x) v e = by-cond (λ (o : Option ℕ). o ≡ some v) (extensions .ends x) (λ _ z. same z) (λ _ z. none-some z) e
@@ -72,7 +66,7 @@ ends-size (Ext w x) v e = by-cond (λ (o : Option ℕ). o ≡ some v) (extension
 
 -- a size only grows
 step-grows : (p : LinePos) (b : ℕ) → sizeOf p ≤ sizeOf (lineStep p b)
-unfolding sizeOf lineStep
+unfolding lineStep
 step-grows First b = omega arith
 step-grows (Size v) b = to-cond (λ (q : LinePos). v ≤ sizeOf q) (hex? b) (λ _. omega arith) (λ _. omega arith)
 step-grows (Ext v x) b = omega arith
@@ -88,7 +82,7 @@ module _ (room : ℕ) where
   leave-in p k t (some v) e h = let z : sizeOf p ≡ v = ends-size p v e in omega (arith, h, z)
 
   size-in : (p : LinePos) (b t : ℕ) → t + sizeOf p ≤ room → pastRoom room (lineStep p b) t ≡ false → t + sizeOf (lineStep p b) ≤ room
-  unfolding lineStep sizeOf pastRoom
+  unfolding lineStep pastRoom
   size-in First b t h = to-cond (λ (q : LinePos). pastRoom room q t ≡ false → t + sizeOf q ≤ room) (hex? b)
       (λ _ z. ltb-false room (t + (0 * 16 + hex-value b)) z) (λ _ _. h)
   size-in (Size v) b t h = to-cond (λ (q : LinePos). pastRoom room q t ≡ false → t + sizeOf q ≤ room) (hex? b)
@@ -104,7 +98,7 @@ module _ (room : ℕ) where
   Kept s = noRoom room s ≡ false → Fits room s
 
   pub keep-fits : (s : State) (b : ℕ) → Fits room s → Kept (step s b)
-  unfolding step Fits sizeOf
+  unfolding step Fits
   keep-fits (Line p k t) b h = to-cond Kept (eqb b 13) (λ _ _. leave-in p k t (lineEnds p) refl h) (λ _ e. size-in p b t h e)
   keep-fits (LineFeed v t) b h = to-cond Kept (eqb b 10) (λ _ _. enter-in v t h) (λ _ _. tt)
   keep-fits (Data zero t) b h = to-cond Kept (octet? b) (λ _ _. h) (λ _ _. tt)

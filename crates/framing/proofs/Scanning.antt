@@ -8,6 +8,8 @@ use Prim.Native.Nat.{ℕ, zero, suc, _+_, _<_, _≤_}
 use native.Mathlib.Decide.{ℕ-discrete, decLt}
 use native.Mathlib.Omega.{arith}
 use lib.ListN.{length, take}
+use lib.Seq.{length-take-le, take-take}
+use Rattle.grammar.proofs.Derivative.{split-nil}
 use Rattle.framing.specs.helpers.Scan.{Found, going, stop, note, run, out, Quiet, scan}
 use Rattle.framing.proofs.Cases.{none-some}
 
@@ -42,6 +44,10 @@ module _ {S : Type 0} (step : S → ℕ → S) where
   out-append emit s [] ys = refl
   out-append emit s (b ∷ xs) ys = rw (out-append emit (step s b) xs ys, append-assoc)
 
+  -- of bytes that give nothing a beginning gives nothing
+  pub out-nothing : (emit : S → ℕ → List ℕ) (s : S) (xs ys : List ℕ) → out step emit s (xs ++ ys) ≡ [] → out step emit s xs ≡ []
+  out-nothing emit s xs ys e = split-nil (out step emit s xs) (out step emit (run step s xs) ys) (sym e ∙ out-append emit s xs ys) .0
+
 module _ {S J : Type 0} (step : S → ℕ → S) (judge : S → Option J) where
   -- the byte at j gets the first verdict
   pub record Stops (s : S) (xs : List ℕ) (j : ℕ) (v : J) : Type 0 where
@@ -49,18 +55,25 @@ module _ {S J : Type 0} (step : S → ℕ → S) (judge : S → Option J) where
     pub quiet : Quiet step judge s xs j
     pub verdict : judge (run step s (take (suc j) xs)) ≡ some v
 
-  quiet-nil : (s : S) (n : ℕ) → judge s ≡ none → Quiet step judge s [] n
+  pub quiet-nil : (s : S) (n : ℕ) → judge s ≡ none → Quiet step judge s [] n
   quiet-nil s n h zero l = h
   quiet-nil s n h (suc i) l = h
 
-  quiet-cons : (s : S) (b : ℕ) (xs : List ℕ) (n : ℕ) → judge s ≡ none → Quiet step judge (step s b) xs n
+  pub quiet-cons : (s : S) (b : ℕ) (xs : List ℕ) (n : ℕ) → judge s ≡ none → Quiet step judge (step s b) xs n
       → Quiet step judge s (b ∷ xs) (suc n)
   quiet-cons s b xs n h k zero l = h
   quiet-cons s b xs n h k (suc i) l = k i (omega arith)
 
-  quiet-zero : (s : S) (xs : List ℕ) → judge s ≡ none → Quiet step judge s xs 0
+  pub quiet-zero : (s : S) (xs : List ℕ) → judge s ≡ none → Quiet step judge s xs 0
   quiet-zero s xs h zero l = h
   quiet-zero s xs h (suc i) l = absurd (omega arith)
+
+  pub quiet-then : (s : S) (xs ys : List ℕ) → Quiet step judge s xs (length xs) → Quiet step judge (run step s xs) ys (length ys)
+      → Quiet step judge s (xs ++ ys) (length (xs ++ ys))
+  quiet-then s [] ys h k = k
+  quiet-then s (b ∷ xs) ys h k =
+      quiet-cons s b (xs ++ ys) (length (xs ++ ys)) (h 0 (omega arith))
+      (quiet-then (step s b) xs ys (λ i l. h (suc i) (omega arith)) k)
 
   pub quiet-on : (s : S) (xs : List ℕ) (n : ℕ) → Quiet step judge s xs n → judge (run step s (take (suc n) xs)) ≡ none
       → Quiet step judge s xs (suc n)
@@ -136,6 +149,20 @@ module _ {S J : Type 0} (step : S → ℕ → S) (judge : S → Option J) where
         go going e = none-some (sym (going-quiet e (suc j) (t .inside)) ∙ t .verdict)
         go (stop i w) e = at i w (stop-stops i w e) (ℕ-discrete i j) (decLt i j)
 
+  -- ## The bytes up to the one that is judged decide
+  pub stop-take : (s : S) (xs : List ℕ) → judge s ≡ none → (j : ℕ) (v : J) → scan step judge s 0 xs ≡ stop j v
+      → scan step judge s 0 (take (suc j) xs) ≡ stop j v
+  stop-take s xs h j v e =
+      let t : Stops s xs j v = stop-stops s xs h j v e in
+      stops-stop s (take (suc j) xs) h j v (record {
+        inside = omega (arith, length-take-le (suc j) xs (t .inside));
+        quiet = λ i l. short i (omega arith) ∙ t .quiet i l;
+        verdict = short (suc j) (omega arith) ∙ t .verdict;
+      })
+    where
+      short : (i : ℕ) → i ≤ suc j → judge (run step s (take i (take (suc j) xs))) ≡ judge (run step s (take i xs))
+      short i l = ap (λ (z : List ℕ). judge (run step s z)) (take-take i (suc j) xs l)
+
   -- ## A verdict stands in every longer input
   stands-here : (i : ℕ) (o : Option J) (r r′ : Found J) (j : ℕ) (v : J) → (r ≡ stop j v → r′ ≡ stop j v)
       → note i o r ≡ stop j v → note i o r′ ≡ stop j v
@@ -148,6 +175,24 @@ module _ {S J : Type 0} (step : S → ℕ → S) (judge : S → Option J) where
   stands s i (b ∷ xs) ys j v e =
       stands-here i (judge (step s b)) (scan step judge (step s b) (suc i) xs) (scan step judge (step s b) (suc i) (xs ++ ys)) j v
       (λ h. stands (step s b) (suc i) xs ys j v h) e
+
+-- ## A machine that goes along with another, whose state it holds
+module _ {S T : Type 0} (step : S → ℕ → S) (step′ : T → ℕ → T) (at : T → S) (along : (t : T) (b : ℕ) → at (step′ t b) ≡ step (at t) b) where
+  pub run-along : (t : T) (xs : List ℕ) → at (run step′ t xs) ≡ run step (at t) xs
+  run-along t [] = refl
+  run-along t (b ∷ xs) = run-along (step′ t b) xs ∙ ap (λ (s : S). run step s xs) (along t b)
+
+  pub out-along : (emit : S → ℕ → List ℕ) (t : T) (xs : List ℕ) → out step′ (λ z b. emit (at z) b) t xs ≡ out step emit (at t) xs
+  out-along emit t [] = refl
+  out-along emit t (b ∷ xs) =
+      ap (λ (r : List ℕ). emit (at t) b ++ r) (out-along emit (step′ t b) xs ∙ ap (λ (s : S). out step emit s xs) (along t b))
+
+  pub scan-along : {J : Type 0} (judge : S → Option J) (t : T) (i : ℕ) (xs : List ℕ)
+      → scan step′ (λ z. judge (at z)) t i xs ≡ scan step judge (at t) i xs
+  scan-along judge t i [] = refl
+  scan-along {J} judge t i (b ∷ xs) =
+      ap (λ (r : Found J). note i (judge (at (step′ t b))) r) (scan-along judge (step′ t b) (suc i) xs)
+      ∙ ap (λ (s : S). note i (judge s) (scan step judge s (suc i) xs)) (along t b)
 
 -- ## Two judges that differ only where the first gives one verdict
 module _ {S J : Type 0} (step : S → ℕ → S) (judge judge′ : S → Option J) (w : J)

@@ -1,5 +1,5 @@
 -- What the machine makes of the bytes that a reader tells apart: the next state, and the verdict on it.
-use mathlib.Core.Path.{_≡_, refl, _∙_, ap}
+use mathlib.Core.Path.{_≡_, refl, sym, _∙_, ap}
 use mathlib.Core.Bool.{Bool, true, false, _&&_, cond}
 use mathlib.Core.Option.{Option, none, some}
 use Prim.Native.Nat.{ℕ, zero, suc, _+_, _-_, _*_, _<_, _≤_}
@@ -14,12 +14,11 @@ use Rattle.framing.specs.declared.LinePos.{LinePos}
 use Rattle.framing.specs.declared.LinePos.the-variants.{First, Size, Ext}
 use Rattle.framing.specs.declared.State.{State}
 use Rattle.framing.specs.declared.State.the-variants.{Line, LineFeed, Data, DataCr, DataLf, Trail, EndLf, Done, Dead}
-use Rattle.framing.specs.helpers.Machine.{extensions, lineStep, lineEnds, lineLive, TrailerAt, trailer}
+use Rattle.framing.specs.helpers.Machine.{extensions, lineStep, lineEnds, lineLive, sizeOf, TrailerAt, trailer}
 use Rattle.framing.specs.helpers.Machine.{leaveLine, enterChunk, step, live, done, pastRoom, machine, tell}
 use Rattle.framing.specs.helpers.Scan.{ended, refusal, verdictOf, over-by}
 use Rattle.framing.specs.Reading.{judge}
-use Rattle.framing.proofs.Cases.{to-cond}
-use Rattle.framing.proofs.Rooms.{sizeOf}
+use Rattle.framing.proofs.Cases.{false-true, to-cond}
 
 -- ## Verdicts
 module _ (room : ℕ) where
@@ -97,7 +96,7 @@ module _ (room : ℕ) where
 
       go : (q : LinePos) → t + sizeOf q ≤ room → pastRoom room q t ≡ false
       go First h = unfold pastRoom in refl
-      go (Size w) h = unfold pastRoom sizeOf in le-ltb room (t + w) h
+      go (Size w) h = unfold pastRoom in le-ltb room (t + w) h
       go (Ext w x) h = unfold pastRoom in refl
 
   module _ (v : ℕ) (e : ExtPos) (k t : ℕ) where
@@ -128,6 +127,11 @@ module _ (room : ℕ) where
 
 -- ## Steps
 module _ (b : ℕ) where
+  -- a digit is no CR
+  pub digit-no-cr : hex? b ≡ true → b ≡ 13 → ⊥
+  unfolding hex?
+  digit-no-cr h e = false-true (sym (ap hex? e) ∙ h)
+
   -- in a chunk line
   pub first-other : (k t : ℕ) → hex? b ≡ false → live (step (Line First k t) b) ≡ false
   unfolding step live lineLive lineStep lineEnds leaveLine

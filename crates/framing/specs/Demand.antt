@@ -81,6 +81,24 @@ module _ {W : Type 0} (f : Format W) (room : ℕ) where
     pub broken : f .Broken room n (take (suc p) s)
     pub lowest : (m : ℕ) → rank (f .limits) m < rank (f .limits) n → f .Broken room m (take (suc p) s) → ⊥
 
+-- ## One limit more, on the number of bytes
+
+-- the limits of f, and one of that number, behind them all: a body has at most so many bytes
+pub data BrokenOr {W : Type 0} (f : Format W) (number most room : ℕ) : ℕ → List ℕ → Type 0 where
+  inner : {n : ℕ} {p : List ℕ} → Among (f .limits) n → f .Broken room n p → BrokenOr f number most room n p
+  -- the byte after so many, where it leaves a continuation
+  longer : {p : List ℕ} → Live (f .Body) p → length p ≡ suc most → BrokenOr f number most room number p
+
+abbrev pub capped : {W : Type 0} → ℕ → ℕ → Format W → Format W
+capped number most f = record {
+  Body = f .Body;
+  Tells = f .Tells;
+  limits = f .limits ++ (number ∷ []);
+  Broken = BrokenOr f number most;
+}
+
+-- ## Readers
+
 -- document 01: "No refusal writes into a lent buffer", nor does "more"
 abbrev pub Nothing : List ℕ → List ℕ → Type 0
 Nothing p d = d ≡ []

@@ -3,9 +3,9 @@
 use mathlib.Core.Path.{_≡_}
 use mathlib.Core.Bool.{Bool, true}
 use mathlib.Core.List.{List, [], _∷_, _++_}
-use Prim.Native.Nat.{ℕ, suc, _+_, _*_, _<_, _≤_}
+use Prim.Native.Nat.{ℕ, suc, _+_, _-_, _*_, _<_, _≤_}
 use Prim.Native.Char.{code}
-use lib.ListN.{length}
+use lib.ListN.{length, take}
 use Rattle.grammar.specs.Text.{bytes}
 use Rattle.grammar.specs.Refusals.{LINE_TOO_LONG, TRAILER_TOO_LONG, BODY_TOO_LARGE}
 use Rattle.grammar.specs.Beginnings.{Matches}
@@ -103,6 +103,14 @@ pub data AtDigit : List ℕ → ℕ → ℕ → ℕ → Type 0 where
 -- p ends in the trailer, "all bytes of trailer lines, CR and LF included, without the closing CRLF", of which it has the bytes t
 pub data InTrailer : List ℕ → List ℕ → Type 0 where
   inTrailer : {c d l t : List ℕ} (u : List ℕ) → Chunks c d → Line l 0 → Trailer (t ++ u) → InTrailer (c ++ (l ++ (crlf ++ t))) t
+
+-- ## The data so far
+-- p begins a body, and d is the chunk data that stands in p
+pub data SoFar : List ℕ → List ℕ → Type 0 where
+  -- it ends in a chunk, of which u is missing: data, and CR LF
+  inChunk : {c d x : List ℕ} (q u : List ℕ) → Chunks c d → Chunk (q ++ u) x → SoFar (c ++ q) (d ++ take (length x + 2 - length u) x)
+  -- it ends in the last chunk, the trailer or what closes the body
+  inLast : {c d l t : List ℕ} (q u : List ℕ) → Chunks c d → Line l 0 → Trailer t → q ++ u ≡ l ++ (crlf ++ (t ++ crlf)) → SoFar (c ++ q) d
 
 -- ## Limits
 

@@ -1,4 +1,4 @@
--- Document 01, "Refusal numbers", by name; the code has the same names in octets.
+-- Document 01, "Refusal numbers", and those of document 02, by name; the code has the same names in octets.
 use Prim.Native.Nat.{ℕ}
 
 abbrev pub MALFORMED : ℕ
@@ -39,3 +39,6 @@ COMMENT_TOO_DEEP = 12
 
 abbrev pub VALUE_TOO_LONG : ℕ
 VALUE_TOO_LONG = 13
+
+abbrev pub FRAMED_TOO_LONG : ℕ
+FRAMED_TOO_LONG = 14

@@ -1,5 +1,5 @@
-pub mod Bytes
 pub mod Spans
+pub mod Bytes
 pub mod Tables
 pub mod SameBy
 pub mod SameBytes

@@ -9,8 +9,7 @@ use mathlib.Core.List.{List, [], _∷_}
 use lib.Dec.{eqb, leb}
 use lib.ListN.{length, getD, drop, drop-of-length-le, length-drop}
 use lib.Seq.{drop-cons}
-use Rattle.octets.specs.Bytes.{digit?, letter?, hex?, hex-value}
-use Rattle.octets.proofs.Spans.{by-range}
+use Rattle.octets.specs.Bytes.{digit?, letter?, hex?}
 use Rattle.octets.specs.Same.{same?}
 use Rattle.url.specs.Bytes.{unreserved?}
 use Rattle.url_equal.specs.Meaning.{escaped-byte, unneeded?, resolved}
@@ -94,30 +93,6 @@ module _ (s : List ℕ) (i : ℕ) where
       within = omega arith;
       is = ap resolved three ∙ unneeded-first (getD s i 0) (getD s (i + 1) 0) (getD s (i + 2) 0) (drop (i + 3) s) e h;
     }
-
--- ## Hex digits as code reads them
-
-small? : ℕ → Bool
-small? b = cond (hex? b) (leb (hex-value b) 15) true
-
-hex-small : (b : ℕ) → b < 256 → hex? b ≡ true → hex-value b ≤ 15
-unfolding hex? small?
-hex-small b h e = leb-true (hex-value b) 15 (sym (ap (λ (t : Bool). cond t (leb (hex-value b) 15) true) e) ∙ by-range small? (λ (n : ℕ). true) 0 256 refl b (omega arith) (omega arith))
-
-module _ (b r : ℕ) (h : b < 256) (e : r ≡ cond (hex? b) (hex-value b) 16) where
-  pub no-digit : 15 < r → hex? b ≡ false
-  no-digit k = go (hex? b) refl e
-    where
-      go : (t : Bool) → hex? b ≡ t → r ≡ cond t (hex-value b) 16 → t ≡ false
-      go true f g = absurd (omega (arith, hex-small b h f))
-      go false f g = refl
-
-  pub digit-value : r ≤ 15 → (hex? b ≡ true) × (r ≡ hex-value b)
-  digit-value k = go (hex? b) e
-    where
-      go : (t : Bool) → r ≡ cond t (hex-value b) 16 → (t ≡ true) × (r ≡ hex-value b)
-      go true g = (refl, g)
-      go false g = absurd (omega arith)
 
 -- ## Two texts, from a place in each on
 

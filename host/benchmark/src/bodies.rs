@@ -7,7 +7,7 @@ use quizotepec::{chunked_decode, Decoded};
 use std::hint::black_box;
 use std::time::Duration;
 
-const BODY: usize = 8 << 20;
+pub const BODY: usize = 8 << 20;
 const ROUNDS: usize = 101;
 
 /// The longest chunk where lengths are random.
@@ -15,14 +15,16 @@ const RANDOM_CHUNK: usize = 64;
 
 /// What the output holds before each call.
 #[derive(Clone, Copy)]
-enum Output {
+pub enum Output {
     /// What the call before wrote.
     Kept,
     /// Zeros, written outside the timing.
     Cleared,
 }
 
-fn frame(body: &[u8], mut chunk_len: impl FnMut() -> usize) -> Vec<u8> {
+pub const OUTPUTS: [(&str, Output); 2] = [("kept", Output::Kept), ("cleared", Output::Cleared)];
+
+pub fn frame(body: &[u8], mut chunk_len: impl FnMut() -> usize) -> Vec<u8> {
     let mut frame = Vec::new();
     let mut rest = body;
     while !rest.is_empty() {
@@ -37,7 +39,7 @@ fn frame(body: &[u8], mut chunk_len: impl FnMut() -> usize) -> Vec<u8> {
 }
 
 /// Lends the output to `run`.
-fn lent<A>(output: Output, out: &mut [u8], run: impl FnOnce(&mut [u8]) -> A) -> (Duration, A) {
+pub fn lent<A>(output: Output, out: &mut [u8], run: impl FnOnce(&mut [u8]) -> A) -> (Duration, A) {
     if let Output::Cleared = output {
         black_box(&mut *out).fill(0);
     }
@@ -80,7 +82,7 @@ pub fn print() {
     let (plain, copy) = ("against plain Rust", "against a bare copy");
     println!("{:16} {:8} {plain:>26} {copy:>26}", "chunk length", "output");
     for (name, frame) in &frames {
-        for (words, output) in [("kept", Output::Kept), ("cleared", Output::Cleared)] {
+        for (words, output) in OUTPUTS {
             let [plain, copy] = compare(&body, frame, output);
             println!("{name:16} {words:8} {:>26} {:>26}", plain.to_string(), copy.to_string());
         }

@@ -2,10 +2,13 @@
 
 mod bodies;
 mod measure;
+mod pieces;
 mod values;
 
 fn main() {
     bodies::print();
+    println!();
+    pieces::print();
     println!();
     values::print();
 }

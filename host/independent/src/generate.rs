@@ -1,10 +1,12 @@
 //! Seeded inputs of every kind: valid, damaged, cut, extended, at the limits, and all short strings.
 
 mod bodies;
+mod cuttings;
 mod limits;
 mod values;
 
 pub use bodies::{body, frame, rooms};
+pub use cuttings::{cuttings, every_cutting, pieces_of, quotas};
 pub use limits::at_limits;
 pub use values::{instant, numbers, pair};
 

@@ -1,7 +1,8 @@
-//! HTTP/1.1 protocol parameters and chunked bodies, written from document 01 alone.
+//! HTTP/1.1 protocol parameters and chunked bodies, written from documents 01 and 02 (request (i)) alone.
 //!
 //! Each rule of the document is a grammar value. A matcher follows every alternative of it, which gives the
 //! longest beginning that can still be completed; limits are checked afterwards, over the parts of that beginning.
+//! The chunked readers `plain`, `pieces` and `plain_pieces` judge byte by byte instead.
 
 pub mod bench;
 pub mod chunked;
@@ -12,7 +13,9 @@ pub mod generate;
 pub mod grammar;
 pub mod language;
 pub mod media;
+pub mod pieces;
 pub mod plain;
+pub mod plain_pieces;
 pub mod products;
 pub mod qvalue;
 pub mod rules;
@@ -21,7 +24,7 @@ pub mod version;
 
 use grammar::{parse, Grammar, Parsed};
 
-/// The refusal numbers of document 01.
+/// The refusal numbers of document 01, and 14 of document 02.
 pub mod number {
     pub const MALFORMED: u8 = 1;
     pub const NUMBER_ABOVE_LIMIT: u8 = 2;
@@ -36,12 +39,13 @@ pub mod number {
     pub const REPEATED_ATTRIBUTE: u8 = 11;
     pub const COMMENT_TOO_DEEP: u8 = 12;
     pub const VALUE_TOO_LONG: u8 = 13;
+    pub const FRAMED_TOO_LONG: u8 = 14;
 }
 
 /// The most bytes of a header value.
 pub const HEADER_LIMIT: usize = 8_192;
 
-/// A row of document 01's table of refusals, and the place counted from 0.
+/// A row of the table of refusals, and the place counted from 0.
 #[derive(Clone, Copy, Debug, PartialEq, Eq, Hash)]
 pub struct Refusal {
     pub number: u8,

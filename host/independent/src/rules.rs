@@ -28,7 +28,7 @@ fn is_quoted_text(byte: u8) -> bool {
 }
 
 /// What may follow the backslash of a pair (house rule).
-fn is_pair_byte(byte: u8) -> bool {
+pub fn is_pair_byte(byte: u8) -> bool {
     byte == HT || (32..=126).contains(&byte)
 }
 

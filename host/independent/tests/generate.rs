@@ -1,8 +1,8 @@
 //! The generated inputs reach each refusal that document 01 gives to their kind, and no other; the pairs reach each
-//! outcome.
+//! outcome; the cuttings add up.
 
 use independent::chunked::{decode, Decoded};
-use independent::generate::{any, at_limits, pair, Kind, Rng};
+use independent::generate::{any, at_limits, cuttings, every_cutting, pair, pieces_of, quotas, Kind, Rng};
 use independent::{etag, language, media, url, version, Refused, Which};
 use std::cmp::Ordering;
 use std::collections::{BTreeSet, HashSet};
@@ -67,4 +67,39 @@ fn pairs() {
         let outcome = |_| compare(kind, pair(kind, &mut rng)).map_err(|refused| refused.which);
         assert_eq!((0..ROUNDS).map(outcome).collect::<HashSet<_>>(), all, "{kind:?}");
     }
+}
+
+#[test]
+fn every_cutting_of_a_short_length() {
+    assert_eq!(every_cutting(0).collect::<Vec<_>>(), [vec![]; 1]);
+    for length in 1..=10 {
+        let cuttings: HashSet<_> = every_cutting(length).collect();
+        assert_eq!(cuttings.len(), 1 << (length - 1));
+        let adds_up = |cutting: &Vec<usize>| cutting.iter().sum::<usize>() == length && !cutting.contains(&0);
+        assert!(cuttings.iter().all(adds_up));
+    }
+}
+
+#[test]
+fn cuttings_of_any_length() {
+    let mut rng = Rng::new(9);
+    for length in [0, 1, 5, 12, 13, 100, 9_000] {
+        let input: Vec<u8> = (0..length).map(|_| rng.byte()).collect();
+        let cuttings = cuttings(length, &mut rng);
+        for cutting in &cuttings {
+            let pieces: Vec<_> = pieces_of(&input, cutting).collect();
+            assert_eq!(pieces.concat(), input);
+            assert!(pieces.iter().map(|piece| piece.len()).eq(cutting.iter().copied()));
+        }
+        assert!(cuttings.contains(&vec![1; length]));
+        assert!(length == 0 || cuttings.contains(&vec![length]));
+        assert!(cuttings.iter().any(|cutting| cutting.contains(&0)));
+    }
+}
+
+#[test]
+fn quotas_on_both_sides() {
+    assert_eq!(quotas(0), [1, 2, usize::MAX]);
+    assert_eq!(quotas(10), [1, 2, 5, 9, 10, 11, usize::MAX]);
+    assert_eq!(quotas(usize::MAX).last(), Some(&usize::MAX));
 }

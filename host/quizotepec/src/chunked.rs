@@ -2,20 +2,32 @@ use crate::answer::written;
 use crate::raw;
 use crate::Refusal;
 
-/// The answer of the chunked reader.
+/// The answer about a chunked body: that of [`chunked_decode`], and of [`Pieces`](crate::Pieces) after each call.
 #[derive(Clone, Copy, Debug, PartialEq, Eq, Hash)]
 pub enum Decoded {
     /// The input begins with a body, whose data are at the front of the output.
     Whole {
         /// How many bytes of the input are the body.
         taken: usize,
-        /// How many bytes of data were written.
+        /// How many bytes of data the body has.
         length: usize,
     },
-    /// The input is the beginning of a body. Nothing was written.
+    /// The input is the beginning of a body. [`chunked_decode`] has written nothing, [`Pieces`](crate::Pieces) the
+    /// data so far.
     More,
-    /// No continuation makes the input a body within the limits. Nothing was written.
+    /// No continuation makes the input a body within the limits; written is the same as after `More`.
+    /// [`Refusal::OutOfRange`] is about an argument, and says nothing of the body.
     Refused(Refusal),
+}
+
+impl Decoded {
+    pub(crate) fn of(b: raw::QzBody) -> Decoded {
+        match b.state {
+            raw::WHOLE => Decoded::Whole { taken: b.taken, length: b.length },
+            raw::MORE => Decoded::More,
+            _ => Decoded::Refused(Refusal::numbered(b.number, b.place)),
+        }
+    }
 }
 
 /// Reads a chunked body at the front of the input; the room is the output's length.
@@ -33,12 +45,7 @@ pub enum Decoded {
 #[must_use]
 pub fn chunked_decode(input: &[u8], out: &mut [u8]) -> Decoded {
     // SAFETY: the output is borrowed alone, so the input does not overlap it; both are valid for their lengths.
-    let b = unsafe { raw::qz_chunked_decode(input.as_ptr(), input.len(), out.as_mut_ptr(), out.len()) };
-    match b.state {
-        raw::WHOLE => Decoded::Whole { taken: b.taken, length: b.length },
-        raw::MORE => Decoded::More,
-        _ => Decoded::Refused(Refusal::numbered(b.number, b.place)),
-    }
+    Decoded::of(unsafe { raw::qz_chunked_decode(input.as_ptr(), input.len(), out.as_mut_ptr(), out.len()) })
 }
 
 /// Writes a body in chunks of `chunk_len` bytes and what remains, and gives the length of the frame.

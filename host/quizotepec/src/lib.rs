@@ -2,7 +2,8 @@
 //!
 //! A reader takes a header value whole; the caller trims outer blanks. A writer writes at the front of the lent
 //! output, keeps the rest and gives the length. A [`Refusal`] says why and where; a refusal writes nothing. The
-//! parts of a value come as places in the bytes that were read: [`Span::of`] gives their bytes.
+//! parts of a value come as places in the bytes that were read: [`Span::of`] gives their bytes. [`Pieces`] decodes a
+//! chunked body as it arrives, and alone writes data before it knows the whole.
 //!
 //! ```
 //! use quizotepec::{chunked_decode, version_read, Decoded, Refusal, Version};
@@ -18,7 +19,8 @@
 //! }
 //! ```
 //!
-//! No function keeps anything between calls, so that any number of threads may call them.
+//! No function keeps anything between calls, so that any number of threads may call them; what is known of a body
+//! that arrives in pieces is in its [`Pieces`].
 //!
 //! The crate has no dependency but the library's archive, `libquizotepec.a`. Its build script takes that of the
 //! folder `QUIZOTEPEC_LIB_DIR`, or else the one that `host/archive` makes in the repository. The oldest rustc for
@@ -35,6 +37,7 @@ mod language;
 mod library;
 mod media;
 mod numbers;
+mod pieces;
 mod products;
 #[allow(dead_code)] // generated whole; a test holds that each of its functions is called
 mod raw;
@@ -50,6 +53,7 @@ pub use language::{language_equal, language_read, LanguageTag};
 pub use library::{library_version, LibraryVersion};
 pub use media::{media_charset, media_equal, media_read, Charset, MediaType, Parameter};
 pub use numbers::{delta_read, qvalue_read, qvalue_write};
+pub use pieces::{Fed, Pieces};
 pub use products::{products_read, Products};
 pub use refusal::{Refusal, Refused, Which};
 pub use span::Span;

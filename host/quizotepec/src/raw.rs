@@ -40,6 +40,9 @@ pub const COMMENT_TOO_DEEP: u8 = 12;
 /// Header value above 8,192 bytes; place: 8,192.
 pub const VALUE_TOO_LONG: u8 = 13;
 
+/// Framed body above 1,099,511,627,776 bytes (reader of pieces); place: the byte after that.
+pub const FRAMED_TOO_LONG: u8 = 14;
+
 /// Whether two inputs are equal, or match.
 #[repr(C)]
 #[derive(Clone, Copy)]
@@ -58,6 +61,27 @@ pub struct QzWritten {
     pub number: u8,
     pub place: usize,
     /// how many bytes were written
+    pub length: usize,
+}
+
+/// QzBody.state.
+pub const WHOLE: u8 = 0;
+
+pub const MORE: u8 = 1;
+
+pub const REFUSED: u8 = 2;
+
+/// What the reader of chunked bodies answers.
+#[repr(C)]
+#[derive(Clone, Copy)]
+pub struct QzBody {
+    /// QZ_WHOLE, QZ_MORE or QZ_REFUSED
+    pub state: u8,
+    pub number: u8,
+    pub place: usize,
+    /// how many bytes of the input are the body
+    pub taken: usize,
+    /// how many bytes of data were written
     pub length: usize,
 }
 
@@ -238,31 +262,39 @@ pub struct QzProducts {
     pub deepest: usize,
 }
 
-/// QzBody.state.
-pub const WHOLE: u8 = 0;
-
-pub const MORE: u8 = 1;
-
-pub const REFUSED: u8 = 2;
-
-/// What the reader of chunked bodies answers.
+/// What the reader in pieces keeps between calls: copy it freely. A field is not for callers to change. It holds no
+/// byte of the body.
 #[repr(C)]
 #[derive(Clone, Copy)]
-pub struct QzBody {
-    /// QZ_WHOLE, QZ_MORE or QZ_REFUSED
-    pub state: u8,
-    pub number: u8,
-    pub place: usize,
-    /// how many bytes of the input are the body
-    pub taken: usize,
-    /// how many bytes of data were written
+pub struct QzPieces {
+    pub position: u8,
+    pub part: u8,
+    pub size: usize,
     pub length: usize,
+    pub total: usize,
+    pub taken: usize,
+    pub room: usize,
+    pub refused: usize,
+}
+
+/// What a call of qz_pieces_feed gives.
+#[repr(C)]
+#[derive(Clone, Copy)]
+pub struct QzFed {
+    /// for the next call
+    pub pieces: QzPieces,
+    /// how many bytes of the piece were taken
+    pub took: usize,
+    /// how many bytes of data stand at the front of the output
+    pub written: usize,
+    /// the answer about the body so far; its place and counts are those of the body, not of the piece
+    pub body: QzBody,
 }
 
 /// The version of this header; qz_library_version gives that of the library which is linked.
 pub const VERSION_MAJOR: u32 = 0;
 
-pub const VERSION_MINOR: u32 = 2;
+pub const VERSION_MINOR: u32 = 3;
 
 pub const VERSION_PATCH: u32 = 0;
 
@@ -297,5 +329,7 @@ extern "C" {
     pub fn qz_products_read(s: *const u8, s_len: usize) -> QzProducts;
     pub fn qz_chunked_decode(input: *const u8, input_len: usize, out: *mut u8, out_len: usize) -> QzBody;
     pub fn qz_chunked_encode(body: *const u8, body_len: usize, chunk_len: usize, out: *mut u8, out_len: usize) -> QzWritten;
+    pub fn qz_pieces_start(room: usize) -> QzPieces;
+    pub fn qz_pieces_feed(pieces: QzPieces, piece: *const u8, piece_len: usize, quota: usize, out: *mut u8, out_len: usize) -> QzFed;
     pub fn qz_library_version() -> QzLibraryVersion;
 }

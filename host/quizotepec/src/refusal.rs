@@ -81,6 +81,11 @@ pub enum Refusal {
         /// Always 8,192.
         place: usize,
     },
+    /// Refusal 14: a framed body above 1,099,511,627,776 bytes.
+    FramedTooLong {
+        /// The byte after that many; always 1,099,511,627,776.
+        place: usize,
+    },
     /// A number that this crate does not know: the library that is linked is another version's.
     Unknown {
         /// The number, as the library gave it.
@@ -107,6 +112,7 @@ impl Refusal {
             raw::REPEATED_ATTRIBUTE => Refusal::RepeatedAttribute { place },
             raw::COMMENT_TOO_DEEP => Refusal::CommentTooDeep { place },
             raw::VALUE_TOO_LONG => Refusal::ValueTooLong { place },
+            raw::FRAMED_TOO_LONG => Refusal::FramedTooLong { place },
             _ => Refusal::Unknown { number, place },
         }
     }
@@ -131,6 +137,7 @@ impl Refusal {
             Refusal::RepeatedAttribute { .. } => raw::REPEATED_ATTRIBUTE,
             Refusal::CommentTooDeep { .. } => raw::COMMENT_TOO_DEEP,
             Refusal::ValueTooLong { .. } => raw::VALUE_TOO_LONG,
+            Refusal::FramedTooLong { .. } => raw::FRAMED_TOO_LONG,
             Refusal::Unknown { number, .. } => number,
         }
     }
@@ -155,6 +162,7 @@ impl Refusal {
             | Refusal::RepeatedAttribute { place }
             | Refusal::CommentTooDeep { place }
             | Refusal::ValueTooLong { place }
+            | Refusal::FramedTooLong { place }
             | Refusal::Unknown { place, .. } => place,
         }
     }
@@ -179,6 +187,7 @@ impl Refusal {
             Refusal::RepeatedAttribute { .. } => "attribute repeated",
             Refusal::CommentTooDeep { .. } => "comment nested deeper than 8",
             Refusal::ValueTooLong { .. } => "header value above 8,192 bytes",
+            Refusal::FramedTooLong { .. } => "framed body above 1,099,511,627,776 bytes",
             Refusal::Unknown { .. } => "refused",
         }
     }
@@ -243,10 +252,10 @@ mod tests {
         for number in 0..=u8::MAX {
             let refusal = Refusal::numbered(number, 7);
             assert_eq!((refusal.number(), refusal.place()), (number, 7));
-            let known = (1..=13).contains(&number);
+            let known = (1..=14).contains(&number);
             assert_eq!(known, !matches!(refusal, Refusal::Unknown { .. }), "{number}");
             assert_eq!(known, refusal.meaning() != "refused", "{number}");
         }
-        assert_eq!(Refusal::numbered(14, 3).to_string(), "refused, at 3 (refusal 14)");
+        assert_eq!(Refusal::numbered(15, 3).to_string(), "refused, at 3 (refusal 15)");
     }
 }

@@ -1,7 +1,7 @@
 -- `ffi_bodies::qz_chunked_decode` meets its contract.
 use borrow.Author.Needs.{needs}
 use mathlib.Core.Path.{ap, _∙_}
-use Rattle.ffi_bodies.specs.Fields.{body-fields}
+use Rattle.ffi.specs.Fields.{body-fields}
 use Rattle.ffi_bodies.proofs.qz_chunked_decode.Statement.{statement}
 use Rattle.ffi_bodies.proofs.qz_chunked_decode.Tie as tie
 

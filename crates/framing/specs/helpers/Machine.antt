@@ -30,6 +30,12 @@ lineLive First = true
 lineLive (Size v) = true
 lineLive (Ext v e) = extensions .alive e
 
+-- the size that a line has read so far
+abbrev pub sizeOf : LinePos → ℕ
+sizeOf First = 0
+sizeOf (Size v) = v
+sizeOf (Ext v e) = v
+
 -- the size that a line gives which ends here
 unfoldable pub lineEnds : LinePos → Option ℕ
 lineEnds First = none

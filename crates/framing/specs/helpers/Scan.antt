@@ -5,6 +5,7 @@ use mathlib.Core.Bool.{Bool, cond}
 use mathlib.Core.List.{List, [], _∷_, _++_}
 use mathlib.Core.Option.{Option, none, some}
 use Prim.Native.Nat.{ℕ, suc, _≤_}
+use lib.Dec.{eqb}
 use lib.ListN.{take}
 use Rattle.grammar.specs.Refusals.{MALFORMED}
 use Rattle.framing.specs.Answer.{Answer, whole, more, refused}
@@ -27,6 +28,23 @@ pub record Machine (E S : Type 0) : Type 0 where
   pub done : S → Option E
   -- in that room, the byte that led to the state broke the limit of that number
   pub broke : ℕ → ℕ → S → Bool
+
+-- ## A machine that counts its bytes, with a limit of that number on them
+pub record Counted (S : Type 0) : Type 0 where
+  pub count : ℕ
+  pub at : S
+
+abbrev pub counted : {E S : Type 0} → ℕ → ℕ → Machine E S → Machine E (Counted S)
+counted number most machine = record {
+  start = record { count = 0; at = machine .start };
+  step = λ s b. record { count = suc (s .count); at = machine .step (s .at) b };
+  emit = λ s b. machine .emit (s .at) b;
+  live = λ s. machine .live (s .at);
+  done = λ s. machine .done (s .at);
+  broke = λ room n s. cond (eqb n number) (eqb (s .count) (suc most)) (machine .broke room n (s .at));
+}
+
+-- ## Verdicts
 
 -- the body ended; or the refusal of that number
 pub data Verdict (E : Type 0) : Type 0 where

@@ -7,10 +7,11 @@ use mathlib.Core.Path.{_≡_, sym, ap, _∙_}
 use mathlib.Core.Bool.{true, false, cond}
 use lib.ListN.{getD}
 use Rattle.octets.specs.Bytes.{hex?, hex-value}
+use Rattle.octets.proofs.Bytes.{is-hex, no-hex}
 use Rattle.url.specs.Bytes.{unreserved?}
 use Rattle.url_equal.specs.Meaning.{escaped-byte, unneeded?}
 use Rattle.url_equal.proofs.Tables.{unreserved-bits}
-use Rattle.url_equal.proofs.Resolved.{kept-character, kept-short, kept-needed, taken-out, no-digit, digit-value}
+use Rattle.url_equal.proofs.Resolved.{kept-character, kept-short, kept-needed, taken-out}
 use Rattle.url_equal.proofs.unit_at.Statement.{statement}
 use Rattle.url_equal.proofs.unit_at.Tie as tie
 
@@ -21,11 +22,11 @@ second-fails : (x y : ℕ) → hex? x ≡ true → hex? y ≡ false → unneeded
 second-fails x y e f = rw (e, f)
 
 -- the byte that two hex digits name, and whether its escape is needed
-module _ (x y m n : ℕ) (low : x < 256) (below : y < 256) (e : m ≡ cond (hex? x) (hex-value x) 16) (f : n ≡ cond (hex? y) (hex-value y) 16) where
+module _ (x y m n : ℕ) (e : m ≡ cond (hex? x) (hex-value x) 16) (f : n ≡ cond (hex? y) (hex-value y) 16) where
   both-digits : m ≤ 15 → n ≤ 15 → (m * 16 + n ≡ escaped-byte x y) × (m * 16 + n < 256) × (unneeded? x y ≡ unreserved? (m * 16 + n))
   both-digits j k =
-      let d = digit-value x m low e j in
-      let g = digit-value y n below f k in
+      let d = is-hex x m e j in
+      let g = is-hex y n f k in
       let v : m * 16 + n ≡ escaped-byte x y = omega (arith, d .1, g .1) in
       (v, omega arith, rw (d .0, g .0) (sym (ap unreserved? v)))
 
@@ -44,7 +45,7 @@ returns-3 c =
     let d = c .before .before .before in
     let z = d .before .before .before .before .before .before in
     let x = z .args in
-    let f = no-digit (getD (x .s .now) (x .i + 1) 0) (d .hex-value .result) (omega (arith, d .before .shared-slice-known3 .given (x .i + 1))) (d .hex-value .ensures) (c .if3 .taken) in
+    let f = no-hex (getD (x .s .now) (x .i + 1) 0) (d .hex-value .result) (d .hex-value .ensures) (omega (arith, d .before .shared-slice-known3 .given (x .i + 1))) (c .if3 .taken) in
     kept-needed (x .s .now) (x .i) (d .before .before .if2 .left) (first-fails (getD (x .s .now) (x .i + 1) 0) (getD (x .s .now) (x .i + 2) 0) f)
 
 returns-4 : tie.Need-returns-4
@@ -53,8 +54,8 @@ returns-4 c =
     let g = c .before .before in
     let z = d .before .before .before .before .before .before in
     let x = z .args in
-    let e = digit-value (getD (x .s .now) (x .i + 1) 0) (d .hex-value .result) (omega (arith, d .before .shared-slice-known3 .given (x .i + 1))) (d .hex-value .ensures) (c .before .if3 .left) in
-    let f = no-digit (getD (x .s .now) (x .i + 2) 0) (g .hex-value2 .result) (omega (arith, g .before .shared-slice-known4 .given (x .i + 2))) (g .hex-value2 .ensures) (c .if4 .taken) in
+    let e = is-hex (getD (x .s .now) (x .i + 1) 0) (d .hex-value .result) (d .hex-value .ensures) (c .before .if3 .left) in
+    let f = no-hex (getD (x .s .now) (x .i + 2) 0) (g .hex-value2 .result) (g .hex-value2 .ensures) (omega (arith, g .before .shared-slice-known4 .given (x .i + 2))) (c .if4 .taken) in
     kept-needed (x .s .now) (x .i) (d .before .before .if2 .left) (second-fails (getD (x .s .now) (x .i + 1) 0) (getD (x .s .now) (x .i + 2) 0) (e .0) f)
 
 returns-5 : tie.Need-returns-5
@@ -68,9 +69,7 @@ returns-5 c =
     let x = d .hex-value in
     let y = g .hex-value2 in
     let digits = both-digits (getD s (i + 1) 0) (getD s (i + 2) 0) (x .result) (y .result) in
-    let low : getD s (i + 1) 0 < 256 = omega (arith, d .before .shared-slice-known3 .given (i + 1)) in
-    let next : getD s (i + 2) 0 < 256 = omega (arith, g .before .shared-slice-known4 .given (i + 2)) in
-    let w = digits low next (x .ensures) (y .ensures) (h .if3 .left) (c .before .before .if4 .left) in
+    let w = digits (x .ensures) (y .ensures) (h .if3 .left) (c .before .before .if4 .left) in
     let k = c .before .in-class in
     let u = sym (unreserved-bits (x .result * 16 + y .result) (w .1)) ∙ sym (k .ensures) in
     kept-needed s i (d .before .before .if2 .left) (w .2 ∙ u ∙ not-true (k .result) (c .if5 .taken))
@@ -86,9 +85,7 @@ returns-6 c =
     let x = d .hex-value in
     let y = g .hex-value2 in
     let digits = both-digits (getD s (i + 1) 0) (getD s (i + 2) 0) (x .result) (y .result) in
-    let low : getD s (i + 1) 0 < 256 = omega (arith, d .before .shared-slice-known3 .given (i + 1)) in
-    let next : getD s (i + 2) 0 < 256 = omega (arith, g .before .shared-slice-known4 .given (i + 2)) in
-    let w = digits low next (x .ensures) (y .ensures) (h .if3 .left) (c .before .before .if4 .left) in
+    let w = digits (x .ensures) (y .ensures) (h .if3 .left) (c .before .before .if4 .left) in
     let k = c .before .in-class in
     let u = sym (unreserved-bits (x .result * 16 + y .result) (w .1)) ∙ sym (k .ensures) in
     rw (w .0) (taken-out s i (d .before .before .if2 .left) (d .before .before .before .if1 .left) (w .2 ∙ u ∙ not-false (k .result) (c .if5 .left)))

@@ -3,6 +3,7 @@
 
 use independent::number;
 use quizotepec::{Refusal, Refused, Which};
+use std::ops::Range;
 
 #[path = "../../src/raw.rs"]
 pub mod raw;
@@ -17,15 +18,50 @@ fn canary(at: usize) -> u8 {
     (at.wrapping_mul(37) ^ (at >> 5)) as u8
 }
 
+/// Bytes that are lent, between canaries.
+#[derive(Clone, Debug, PartialEq)]
+pub struct Lent(Vec<u8>);
+
+impl Lent {
+    pub fn new(room: usize) -> Lent {
+        Lent((0..room + 2 * CANARIES).map(canary).collect())
+    }
+
+    pub fn of(bytes: &[u8]) -> Lent {
+        let mut lent = Lent::new(bytes.len());
+        lent.bytes().copy_from_slice(bytes);
+        lent
+    }
+
+    pub fn bytes(&mut self) -> &mut [u8] {
+        let end = self.0.len() - CANARIES;
+        &mut self.0[CANARIES..end]
+    }
+
+    /// `front` stands at the front of the lent bytes, and every other byte is as before.
+    pub fn holds(&self, front: &[u8]) -> bool {
+        let end = CANARIES + front.len();
+        self.0[CANARIES..end] == *front && self.as_before(0..CANARIES) && self.as_before(end..self.0.len())
+    }
+
+    /// Every byte around the lent ones is as before.
+    pub fn is_kept(&self) -> bool {
+        let end = self.0.len();
+        self.as_before(0..CANARIES) && self.as_before(end - CANARIES..end)
+    }
+
+    fn as_before(&self, places: Range<usize>) -> bool {
+        self.0[places.clone()].iter().copied().eq(places.map(canary))
+    }
+}
+
 /// Lends `room` bytes to `call`; afterwards `front` stands at their front and every other byte is as before.
 pub fn lend<A>(room: usize, call: impl FnOnce(&mut [u8]) -> A, front: impl FnOnce(&A) -> Vec<u8>) -> A {
-    let mut bytes: Vec<u8> = (0..room + 2 * CANARIES).map(canary).collect();
-    let mut expected = bytes.clone();
-    let answer = call(&mut bytes[CANARIES..CANARIES + room]);
+    let mut lent = Lent::new(room);
+    let answer = call(lent.bytes());
     let front = front(&answer);
     assert!(front.len() <= room, "{} bytes for a room of {room}", front.len());
-    expected[CANARIES..CANARIES + front.len()].copy_from_slice(&front);
-    assert_eq!(bytes, expected, "the lent bytes or those around them");
+    assert!(lent.holds(&front), "the lent bytes or those around them: {lent:?}");
     answer
 }
 
@@ -57,11 +93,12 @@ pub fn refusal(r: independent::Refusal) -> Refusal {
         number::REPEATED_ATTRIBUTE => Refusal::RepeatedAttribute { place },
         number::COMMENT_TOO_DEEP => Refusal::CommentTooDeep { place },
         number::VALUE_TOO_LONG => Refusal::ValueTooLong { place },
-        unknown => panic!("document 01 has no refusal {unknown}"),
+        number::FRAMED_TOO_LONG => Refusal::FramedTooLong { place },
+        unknown => panic!("documents 01 and 02 have no refusal {unknown}"),
     }
 }
 
-/// The refusal with a number of document 01.
+/// The refusal with a number of documents 01 and 02.
 pub fn at(number: u8, place: usize) -> Refusal {
     refusal(independent::Refusal::new(number, place))
 }

@@ -1,4 +1,4 @@
--- `ffi_bodies::body_of` meets its contract.
+-- `ffi::body_of` meets its contract.
 use borrow.Author.Needs.{needs}
 use mathlib.Core.Path.{_≡_, refl, sym, ap}
 use mathlib.Core.List.{[], _∷_}
@@ -8,9 +8,9 @@ use Rattle.chunked.specs.declared.Answer.{Answer}
 use Rattle.chunked.specs.declared.Answer.the-variants.{Whole, More, Refused}
 use Rattle.chunked.proofs.Answer.{the-type}
 use Rattle.chunked.specs.Verdict.{verdict}
-use Rattle.ffi_bodies.specs.Fields.{body-fields}
-use Rattle.ffi_bodies.proofs.body_of.Statement.{statement}
-use Rattle.ffi_bodies.proofs.body_of.Tie as tie
+use Rattle.ffi.specs.Fields.{body-fields}
+use Rattle.ffi.proofs.body_of.Statement.{statement}
+use Rattle.ffi.proofs.body_of.Tie as tie
 
 is-more : (a : Answer) → OneOf (1 ∷ []) (tagOf the-type a) → a ≡ More
 is-more (Whole w) h = absurd (miss (1 ∷ []) 0 tt h)

@@ -1,0 +1,20 @@
+-- The request's cases, computed by the definitions.
+use mathlib.Core.Path.{_≡_, refl}
+use mathlib.Core.List.{[]}
+use Rattle.grammar.specs.Text.{bytes}
+use Rattle.octets.specs.Bytes.{hex?}
+use Rattle.framing.specs.Answer.{whole, more, refused}
+use Rattle.framing.specs.helpers.Machine.{lineStep, lineLive, lineEnds, leaveLine, enterChunk, step, emit, live, done, pastRoom}
+use Rattle.pieces.specs.Reading.{next, answer-of, advance, steps, decode, decoded}
+
+-- the whole body; the first 7 bytes; a byte that is no CR; a size above the room
+cases : (decode 5 (bytes "5\r\nhello\r\n0\r\n\r\n") ≡ whole (record { taken = 15; length = 5 }))
+    × (decoded 5 (bytes "5\r\nhello\r\n0\r\n\r\n") ≡ bytes "hello")
+    × (decode 5 (bytes "5\r\nhell") ≡ more)
+    × (decoded 5 (bytes "5\r\nhell") ≡ bytes "hell")
+    × (decode 5 (bytes "5\r\nhelloX") ≡ refused 1 8)
+    × (decoded 5 (bytes "5\r\nhelloX") ≡ bytes "hello")
+    × (decode 4 (bytes "5") ≡ refused 7 0)
+    × (decode 4 [] ≡ more)
+unfolding next answer-of advance steps lineStep lineLive lineEnds leaveLine enterChunk step emit live done pastRoom hex?
+cases = (refl, refl, refl, refl, refl, refl, refl, refl)

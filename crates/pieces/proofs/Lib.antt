@@ -1,0 +1,12 @@
+pub mod Possible
+pub mod Steps
+pub mod Scans
+pub mod Decoding
+pub mod Sequences
+pub mod Answers
+pub mod PlainLines
+pub mod Passing
+pub mod Valid
+pub mod Rest
+pub mod Demands
+pub mod Examples

@@ -1,0 +1,78 @@
+-- Where a body stands as numbers, and back. What the numbers are is said in src/lib.rt.
+use Prim.Native.Nat.{ℕ, zero, suc}
+use mathlib.Core.List.{List, [], _∷_}
+use Rattle.framing.specs.declared.ExtPos.{ExtPos}
+use Rattle.framing.specs.declared.ExtPos.the-variants as ExtPos
+use Rattle.framing.specs.declared.LinePos.{LinePos}
+use Rattle.framing.specs.declared.LinePos.the-variants.{First, Size, Ext}
+use Rattle.framing.specs.declared.TrailPos.{TrailPos}
+use Rattle.framing.specs.declared.TrailPos.the-variants as TrailPos
+use Rattle.framing.specs.declared.State.{State}
+use Rattle.framing.specs.declared.State.the-variants.{Line, LineFeed, Data, DataCr, DataLf, Trail, EndLf, Done, Dead}
+use Rattle.position_numbers.specs.declared.Numbers.{Numbers}
+
+abbrev pub ext-number : ExtPos → ℕ
+ext-number ExtPos.Between = 2
+ext-number ExtPos.NameStart = 3
+ext-number ExtPos.Name = 4
+ext-number ExtPos.ValueStart = 5
+ext-number ExtPos.Token = 6
+ext-number ExtPos.Quoted = 7
+ext-number ExtPos.Pair = 8
+ext-number ExtPos.Dead = 9
+
+abbrev pub trail-number : TrailPos → ℕ
+trail-number TrailPos.LineStart = 0
+trail-number TrailPos.Name = 1
+trail-number TrailPos.Value = 2
+trail-number TrailPos.Lf = 3
+trail-number TrailPos.Dead = 4
+
+abbrev pub line-numbers : LinePos → ℕ → ℕ → Numbers
+line-numbers First k t = record { position = 0; part = 0; size = 0; length = k; total = t }
+line-numbers (Size v) k t = record { position = 0; part = 1; size = v; length = k; total = t }
+line-numbers (Ext v e) k t = record { position = 0; part = ext-number e; size = v; length = k; total = t }
+
+abbrev pub numbers-of : State → Numbers
+numbers-of (Line p k t) = line-numbers p k t
+numbers-of (LineFeed v t) = record { position = 1; part = 0; size = v; length = 0; total = t }
+numbers-of (Data m t) = record { position = 2; part = 0; size = m; length = 0; total = t }
+numbers-of (DataCr t) = record { position = 3; part = 0; size = 0; length = 0; total = t }
+numbers-of (DataLf t) = record { position = 4; part = 0; size = 0; length = 0; total = t }
+numbers-of (Trail p k t) = record { position = 5; part = trail-number p; size = 0; length = k; total = t }
+numbers-of (EndLf t) = record { position = 6; part = 0; size = 0; length = 0; total = t }
+numbers-of (Done t) = record { position = 7; part = 0; size = 0; length = 0; total = t }
+numbers-of Dead = record { position = 8; part = 0; size = 0; length = 0; total = 0 }
+
+-- ## And back: numbers that stand for no case are Dead
+-- the n-th of the cases, from 0; the other one where they are fewer
+abbrev pub nth : {A : Type 0} → ℕ → List A → A → A
+nth n [] other = other
+nth zero (x ∷ xs) other = x
+nth (suc n) (x ∷ xs) other = nth n xs other
+
+-- 0 and 1 are no place of an extension
+abbrev pub exts : List ExtPos
+exts =
+    ExtPos.Dead ∷ ExtPos.Dead ∷ ExtPos.Between ∷ ExtPos.NameStart ∷ ExtPos.Name ∷ ExtPos.ValueStart ∷ ExtPos.Token ∷ ExtPos.Quoted ∷
+    ExtPos.Pair ∷ []
+
+abbrev pub ext-of : ℕ → ExtPos
+ext-of n = nth n exts ExtPos.Dead
+
+abbrev pub line-of : ℕ → ℕ → LinePos
+line-of n v = nth n (First ∷ Size v ∷ []) (Ext v (ext-of n))
+
+abbrev pub trails : List TrailPos
+trails = TrailPos.LineStart ∷ TrailPos.Name ∷ TrailPos.Value ∷ TrailPos.Lf ∷ []
+
+abbrev pub trail-of : ℕ → TrailPos
+trail-of n = nth n trails TrailPos.Dead
+
+abbrev pub places : Numbers → List State
+places n =
+    Line (line-of (n .part) (n .size)) (n .length) (n .total) ∷ LineFeed (n .size) (n .total) ∷ Data (n .size) (n .total) ∷
+    DataCr (n .total) ∷ DataLf (n .total) ∷ Trail (trail-of (n .part)) (n .length) (n .total) ∷ EndLf (n .total) ∷ Done (n .total) ∷ []
+
+abbrev pub place-of : Numbers → State
+place-of n = nth (n .position) (places n) Dead
