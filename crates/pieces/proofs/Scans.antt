@@ -1,8 +1,7 @@
 -- The reader's steps from a state that is not over, and the scan of the machine that counts its bytes: they come to the same.
-use mathlib.Core.Path.{_≡_, refl, sym, _∙_, ap, ap₂, subst}
+use mathlib.Core.Path.{_≡_, refl, sym, _∙_, ap, ap₂}
 use mathlib.Core.Bool.{Bool, true, false, cond}
 use mathlib.Core.List.{List, [], _∷_}
-use mathlib.Core.Logic.{⊎-elim}
 use mathlib.Core.Option.{Option, none, some}
 use Prim.Native.Nat.{ℕ, suc, _+_, _<_}
 use native.Mathlib.Omega.{arith}
@@ -13,22 +12,24 @@ use borrow.Author.Tests.{ne-eqb}
 use Rattle.grammar.specs.Refusals.{MALFORMED, FRAMED_TOO_LONG}
 use Rattle.framing.specs.declared.Whole.{Whole}
 use Rattle.framing.specs.declared.State.{State}
-use Rattle.framing.specs.Answer.{Answer, whole, more, refused}
+use Rattle.framing.specs.Answer.{whole, more, refused}
 use Rattle.framing.specs.Demand.{Among}
 use Rattle.framing.specs.Grammar.{limits, chunked}
 use Rattle.framing.specs.helpers.Machine.{End, machine, start, step, emit, live, done, tell}
 use Rattle.framing.specs.helpers.Scan.{Verdict, ended, refusal, Counted, Found, going, stop, note, out, scan}
 use Rattle.framing.specs.helpers.Scan.{answer, written, over-by, judge-by, find-by}
-use Rattle.framing.proofs.Machines.{judged-none, judged-ended, judged-refusal}
-use Rattle.framing.proofs.Ranks.{first-passes}
+use Rattle.framing.proofs.Machines.{judged-none, judged-ended}
 use Rattle.framing.proofs.Scanning.{stop-stops, stop-take}
 use Rattle.framing.proofs.Counting.{counted-out, counted-laws}
 use Rattle.framing.proofs.Judging.{laws}
 use Rattle.framing.proofs.Demands.{malformed-no-limit}
 use Rattle.pieces.specs.Grammar.{FRAMED_LIMIT, in-pieces}
 use Rattle.pieces.specs.declared.Pieces.{Pieces}
-use Rattle.pieces.specs.Reading.{counting, begun, judged, heed, next, unrefused, answer-of, over, over?, advance, steps, decoded}
+use Rattle.pieces.specs.Reading.{counting, begun, judged, heed, unrefused, answer-of, over, over?, advance, steps, decoded}
 use Rattle.pieces.specs.Calls.{met}
+use Rattle.pieces.proofs.Steps.{refusal-listed, over-refused, over-done, over-stays, over-steps, onward, turned, next-none, next-ended}
+use Rattle.pieces.proofs.Steps.{next-refused, advance-cons, advance-onward, steps-onward, steps-turned}
+use Rattle.pieces.proofs.Answers.{answer-refused}
 
 -- ## Answers
 answer-is : (s : Pieces) (n : ℕ) (o : Option End) → s .refused ≡ n → done (s .position) ≡ o
@@ -37,18 +38,10 @@ unfolding answer-of
 answer-is s n o x y =
     ap₂ (λ (m : ℕ) (p : Option End). cond (eqb m 0) (unrefused p (s .taken)) (refused m (s .taken))) x y
 
-refused-is : (s : Pieces) → (s .refused ≡ 0 → ⊥) → answer-of s ≡ refused (s .refused) (s .taken)
-unfolding answer-of
-refused-is s h =
-    ap (λ (x : Bool). cond x (unrefused (done (s .position)) (s .taken)) (refused (s .refused) (s .taken))) (ne-eqb (s .refused) 0 h)
-
 pub not-refused : {A : Type 0} {w : Whole} {n p : ℕ} → whole w ≡ refused n p → A
 not-refused e = let z : _≡_ {A = ℕ} 0 1 = cc in absurd (omega arith)
 
 -- ## One byte, by its verdict
-limit-above : Among (in-pieces .limits) 0 → ⊥
-limit-above a = omega arith
-
 module _ (s : Pieces) (b : ℕ) where
   abbrev behind : Counted State
   behind = record { count = suc (s .taken); at = step (s .position) b }
@@ -61,38 +54,6 @@ module _ (s : Pieces) (b : ℕ) where
 
   ended-done : (t : End) → judged s b ≡ some (ended t) → done (step (s .position) b) ≡ some t
   ended-done t e = judged-ended (live (step (s .position) b)) (done (step (s .position) b)) past-limit t e
-
-  -- no refusal has the number 0
-  refusal-above : (n : ℕ) → judged s b ≡ some (refusal n) → n ≡ 0 → ⊥
-  refusal-above n e z =
-      ⊎-elim (λ (w : (live (step (s .position) b) ≡ false) × (n ≡ MALFORMED)). omega (arith, w .1, z))
-      (λ (w : (live (step (s .position) b) ≡ true) × (past-limit ≡ some n)).
-      limit-above (subst (Among (in-pieces .limits)) z
-      (first-passes (λ m. counting .broke (s .room) m behind) (in-pieces .limits) n (w .1) .0)))
-      (judged-refusal (live (step (s .position) b)) (done (step (s .position) b)) past-limit n e)
-
-  module _ (xs : List ℕ) (o : Option (Verdict End)) (unfinished : answer-of s ≡ more) (e : judged s b ≡ o) where
-    advance-by : advance s (b ∷ xs) ≡ advance (heed o s b) xs
-    unfolding advance next
-    advance-by =
-        ap (λ (a : Answer Whole). cond (over a) s (advance (next s b) xs)) unfinished
-        ∙ ap (λ (v : Option (Verdict End)). advance (heed v s b) xs) e
-
-    steps-by : steps s (b ∷ xs) ≡ cond (eqb (heed o s b .refused) 0) (suc (steps (heed o s b) xs)) 0
-    unfolding steps next
-    steps-by =
-        ap (λ (a : Answer Whole). cond (over a) 0 (cond (eqb (next s b .refused) 0) (suc (steps (next s b) xs)) 0)) unfinished
-        ∙ ap (λ (v : Option (Verdict End)). cond (eqb (heed v s b .refused) 0) (suc (steps (heed v s b) xs)) 0) e
-
--- a state that is over stays
-rests : (s : Pieces) (xs : List ℕ) (a : Answer Whole) → answer-of s ≡ a → over a ≡ true → (advance s xs ≡ s) × (steps s xs ≡ 0)
-unfolding advance steps
-rests s [] a e h = (refl, refl)
-rests s (b ∷ xs) a e h =
-    let z : over? s ≡ true = ap over e ∙ h in (
-      ap (λ (x : Bool). cond x s (advance (next s b) xs)) z,
-      ap (λ (x : Bool). cond x 0 (cond (eqb (next s b .refused) 0) (suc (steps (next s b) xs)) 0)) z,
-    )
 
 -- ## All bytes
 -- what is found from a state on
@@ -127,37 +88,36 @@ on-byte s b xs none u e on =
     let t : Pieces = heed none s b in
     let f : Found (Verdict End) = found-from t xs in
     let r : Reads t xs f = on (none-done s b e) in
-    let a : advance s (b ∷ xs) ≡ advance t xs = advance-by s b xs none u e in
+    let o : over? s ≡ false = ap over u in
+    let a : advance s (b ∷ xs) ≡ advance t xs = advance-onward s b o (next-none s b e) xs in
     let k : suc (s .taken) + length xs ≡ s .taken + suc (length xs) = omega arith in
     let n : accepted (suc (s .taken) + length xs) f ≡ accepted (s .taken + suc (length xs)) f = ap (λ (m : ℕ). accepted m f) k in
     record {
       answers = ap answer-of a ∙ r .answers;
       taken = ap (λ (z : Pieces). z .taken) a ∙ r .taken ∙ n;
       met-is = ap met a ∙ r .met-is ∙ ap (λ (m : ℕ). heard m f) k;
-      count = omega (arith, steps-by s b xs none u e, r .count, n);
+      count = omega (arith, steps-onward s b o (next-none s b e) xs, r .count, n);
     }
 on-byte s b xs (some (ended t)) u e on =
-    let v : Option (Verdict End) = some (ended t) in
-    let d : answer-of (heed v s b) ≡ whole (tell (suc (s .taken)) t) = answer-is (heed v s b) 0 (some t) refl (ended-done s b t e) in
-    let q = rests (heed v s b) xs (whole (tell (suc (s .taken)) t)) d refl in
-    let a : advance s (b ∷ xs) ≡ heed v s b = advance-by s b xs v u e ∙ q .0 in
+    let o : over? s ≡ false = ap over u in
+    let z : over? (onward s b) ≡ true = over-done (onward s b) t (ended-done s b t e) in
+    let a : advance s (b ∷ xs) ≡ onward s b = advance-onward s b o (next-ended s b t e) xs ∙ over-stays (onward s b) z xs in
     record {
-      answers = ap answer-of a ∙ d;
-      taken = ap (λ (z : Pieces). z .taken) a;
+      answers = ap answer-of a ∙ answer-is (onward s b) 0 (some t) refl (ended-done s b t e);
+      taken = ap (λ (x : Pieces). x .taken) a;
       met-is = ap met a;
-      count = omega (arith, steps-by s b xs v u e, q .1);
+      count = omega (arith, steps-onward s b o (next-ended s b t e) xs, over-steps (onward s b) z xs);
     }
 on-byte s b xs (some (refusal n)) u e on =
-    let v : Option (Verdict End) = some (refusal n) in
-    let d : answer-of (heed v s b) ≡ refused n (s .taken) = refused-is (heed v s b) (refusal-above s b n e) in
-    let a : advance s (b ∷ xs) ≡ heed v s b = advance-by s b xs v u e ∙ rests (heed v s b) xs (refused n (s .taken)) d refl .0 in
-    let h : eqb n 0 ≡ false = ne-eqb n 0 (refusal-above s b n e) in
-    let k : steps s (b ∷ xs) ≡ 0 = steps-by s b xs v u e ∙ ap (λ (x : Bool). cond x (suc (steps (heed v s b) xs)) 0) h in
+    let o : over? s ≡ false = ap over u in
+    let w : n ≡ 0 → ⊥ = refusal-listed s b n e .1 in
+    let a : advance s (b ∷ xs) ≡ turned s n
+    = advance-cons s b o xs ∙ ap (λ (x : Pieces). advance x xs) (next-refused s b n e) ∙ over-stays (turned s n) (over-refused (turned s n) w) xs in
     record {
-      answers = ap answer-of a ∙ d;
-      taken = ap (λ (z : Pieces). z .taken) a;
-      met-is = ap met a ∙ ap (λ (x : Bool). cond x (s .taken) (suc (s .taken))) h;
-      count = omega (arith, k);
+      answers = ap answer-of a ∙ answer-refused (turned s n) w;
+      taken = ap (λ (x : Pieces). x .taken) a;
+      met-is = ap met a ∙ ap (λ (x : Bool). cond x (s .taken) (suc (s .taken))) (ne-eqb n 0 w);
+      count = omega (arith, steps-turned s b o n w (next-refused s b n e) xs);
     }
 
 pub reads : (s : Pieces) (xs : List ℕ) → s .refused ≡ 0 → done (s .position) ≡ none → Reads s xs (found-from s xs)

@@ -13,7 +13,7 @@ use lib.Seq.{take-all}
 use borrow.Author.Tests.{eqb-true, eqb-false, eq-eqb, ne-eqb, leb-true, le-leb, not-true}
 use Rattle.grammar.specs.Refusals.{OUT_OF_RANGE}
 use Rattle.text.specs.Placing.{placed}
-use Rattle.text.proofs.Placing.{placed-fits, placed-length, placed-placed, put-none}
+use Rattle.text.proofs.Placing.{placed-fits, placed-length, placed-placed}
 use Rattle.framing.specs.Answer.{Answer, refused}
 use Rattle.framing.specs.declared.Whole.{Whole}
 use Rattle.framing.specs.helpers.Machine.{End, start, done}
@@ -24,7 +24,8 @@ use Rattle.pieces.specs.declared.Pieces.{Pieces}
 use Rattle.pieces.specs.Reading.{begun, unrefused, answer-of, over?, advance, steps, gathered, decode, decoded, filled, listed, valid}
 use Rattle.pieces.specs.Reading.{state-after, taken-by, answered, output-after}
 use Rattle.pieces.specs.Calls.{Call, after, output, taken-in, offer, offers, waiting}
-use Rattle.pieces.proofs.Possible.{both, to-both, possible-stands, filled-fits}
+use Rattle.pieces.proofs.Possible.{both, to-both}
+use Rattle.pieces.proofs.Passing.{placed-none}
 use Rattle.pieces.proofs.Steps.{over-stays, over-steps, gathered-none, advance-append, steps-append, gathered-append, advance-room}
 use Rattle.pieces.specs.helpers.Runs.{Sound}
 use Rattle.pieces.proofs.Steps.{advance-taken, steps-within, steps-all, begun-sound, advance-sound, filled-on, gathered-fits}
@@ -67,12 +68,6 @@ allows-valid s quota len a =
     sound-valid s quota len (a .sound)
     ∙ to-both (not (eqb quota 0)) (eqb len (s .room)) (ap not (ne-eqb quota 0 (λ e. absurd (omega (arith, a .some-quota)))))
     (eq-eqb len (s .room) (a .same-room))
-
--- nothing placed changes nothing, at a place within
-nothing-placed : (s : Pieces) (old : List ℕ) → Sound s → length old ≡ s .room → placed old (filled (s .position)) [] ≡ old
-nothing-placed s old d l =
-    let f = filled-fits (s .room) (s .position) (possible-stands (s .room) (s .position) (d .stands)) in
-    sym (put-none old (filled (s .position)) (omega arith) .is)
 
 module _ (s : Pieces) (piece : List ℕ) (quota : ℕ) where
   -- "how many bytes it took, at most the quota. It takes the smaller of quota and piece length, fewer only where the body ends or at a
@@ -131,7 +126,7 @@ module _ (s : Pieces) (piece : List ℕ) (quota : ℕ) where
           sym (pick-true (valid s quota (length old)) (steps s (take quota piece)) 0 h) ∙ k,
           sym (pick-true (valid s quota (length old)) (answer-of (advance s (take quota piece))) (refused OUT_OF_RANGE 0) h) ∙ ap answer-of z,
           sym (pick-true (valid s quota (length old)) (placed old (filled (s .position)) (gathered s (take quota piece))) old h)
-              ∙ ap (placed old (filled (s .position))) (gathered-none s (take quota piece) k) ∙ nothing-placed s old (a .sound) (a .same-room),
+              ∙ ap (placed old (filled (s .position))) (gathered-none s (take quota piece) k) ∙ placed-none old (filled (s .position)),
         )
 
 -- ## One call, on a state that is met: it goes on by the bytes that it offers
@@ -173,7 +168,7 @@ module _ (room : ℕ) (s : Pieces) (d : Sound s) (r : s .room ≡ room) (c : Cal
       all = placed old (filled (s .position)) (gathered s (take (c .quota) (c .piece)))
 
       still : old ≡ placed old (filled (s .position)) []
-      still = sym (nothing-placed s old d (l ∙ sym r))
+      still = sym (placed-none old (filled (s .position)))
 
       go : (x y : Bool) → cond y (cond x all old) old
           ≡ placed old (filled (s .position)) (gathered s (cond (x && y) (take (c .quota) (c .piece)) []))
@@ -204,7 +199,7 @@ module _ (room : ℕ) where
   output-offers : (s : Pieces) (cs : List Call) (old : List ℕ) → Sound s → s .room ≡ room → length old ≡ room
       → output s cs old ≡ placed old (filled (s .position)) (gathered s (offers room cs))
   unfolding output offers steps
-  output-offers s [] old d r l = sym (nothing-placed s old d (l ∙ sym r))
+  output-offers s [] old d r l = sym (placed-none old (filled (s .position)))
   output-offers s (c ∷ cs) old d r l =
       let x : List ℕ = offer room c in
       let z : Pieces = advance s x in
