@@ -211,6 +211,18 @@ static void show_body(const char *what, QzBody b)
            (unsigned long)b.place, (unsigned long)b.taken, (unsigned long)b.length);
 }
 
+/* A whole body's trailer is a part of the input. Its last CRLF is not printed. */
+static void show_trailer(const char *what, const char *text)
+{
+    uint8_t data[64];
+    QzBody b = qz_chunked_decode(bytes(text), strlen(text), data, sizeof data);
+    show_body(what, b);
+    if (b.state == QZ_WHOLE && b.trailer_length > 0) {
+        printf("%lu bytes of trailer from %lu: %.*s\n", (unsigned long)b.trailer_length,
+               (unsigned long)b.trailer_start, (int)b.trailer_length - 2, text + b.trailer_start);
+    }
+}
+
 int main(void)
 {
     uint8_t out[64];
@@ -250,5 +262,7 @@ int main(void)
     printf("%.*s\n", (int)b.length, (const char *)data);
     show_body("without the last byte", qz_chunked_decode(out, w.length - 1, data, sizeof data));
     show_body("in room 4", qz_chunked_decode(out, w.length, data, 4));
+    show_trailer("with a trailer", "5\r\nhello\r\n0\r\nETag: \"x\"\r\n\r\n");
+    show_trailer("with Content-Length in it", "5\r\nhello\r\n0\r\nContent-Length: 5\r\n\r\n");
     return 0;
 }

@@ -35,6 +35,8 @@ static void show(QzBody body, const uint8_t *out)
 {
     if (body.state == QZ_WHOLE) {
         printf("whole: %lu bytes taken, %lu bytes of data\n", count(body.taken), count(body.length));
+        /* The reader keeps no byte of it: a caller that wants the trailer keeps its pieces. */
+        printf("trailer: %lu bytes from %lu\n", count(body.trailer_length), count(body.trailer_start));
     } else if (body.state == QZ_MORE) {
         printf("more: the input ended too early\n");
     } else {

@@ -52,7 +52,9 @@ enum {
     /* Header value above 8,192 bytes; place: 8,192. */
     QZ_VALUE_TOO_LONG = 13,
     /* Framed body above 1,099,511,627,776 bytes (reader of pieces); place: the byte after that. */
-    QZ_FRAMED_TOO_LONG = 14
+    QZ_FRAMED_TOO_LONG = 14,
+    /* Trailer field that no trailer may hold; place: its colon. */
+    QZ_FORBIDDEN_FIELD = 15
 };
 
 /* Whether two inputs are equal, or match. */
@@ -89,6 +91,10 @@ typedef struct QzBody {
     size_t taken;
     /* how many bytes of data were written */
     size_t length;
+    /* where the trailer stands: all its lines, without the closing CRLF; without a trailer, the place of the closing CRLF
+     * and 0 */
+    size_t trailer_start;
+    size_t trailer_length;
 } QzBody;
 
 enum {
@@ -316,6 +322,7 @@ QzWritten qz_chunked_encode(const uint8_t *body, size_t body_len, size_t chunk_l
 typedef struct QzPieces {
     uint8_t position;
     uint8_t part;
+    uint8_t name;
     size_t size;
     size_t length;
     size_t total;
@@ -350,7 +357,7 @@ QzFed qz_pieces_feed(QzPieces pieces, const uint8_t *piece, size_t piece_len, si
 
 /* The version of this header; qz_library_version gives that of the library which is linked. */
 #define QZ_VERSION_MAJOR 0
-#define QZ_VERSION_MINOR 3
+#define QZ_VERSION_MINOR 4
 #define QZ_VERSION_PATCH 0
 
 /* The version of the library. */

@@ -12,12 +12,14 @@
 #include <stdio.h>
 #include <stdlib.h>
 #include <string.h>
+#include <strings.h>
 #include <sys/mman.h>
 #include <time.h>
 #include <unistd.h>
 
-/* The limits that the documents give, and how many numbers there are, 0 included. */
-enum { LINE_LIMIT = 1024, VALUE_LIMIT = 8192, VERSION_LIMIT = 65535, LEVEL_LIMIT = 8, NUMBERS = 15 };
+/* The limits that the documents give, and how many refusal numbers there are, 0 included. */
+enum { LINE_LIMIT = 1024, TRAILER_LIMIT = 8192, VALUE_LIMIT = 8192, VERSION_LIMIT = 65535, LEVEL_LIMIT = 8 };
+enum { NUMBERS = 16 };
 #define SECONDS_LIMIT 2147483647u
 #define EARLIEST INT64_C(-12212553600)
 #define LATEST INT64_C(253402300799)
@@ -226,20 +228,56 @@ static Answer of_QzWritten(QzWritten r, const Call *c)
     return x;
 }
 
+/* A line begins with a name that no trailer may hold, and its colon stands there. */
+static bool ends_forbidden_name(const uint8_t *bytes, size_t colon)
+{
+    static const char *const names[] = {"Transfer-Encoding", "Content-Length", "Trailer"};
+    bool found = false;
+    size_t i;
+    for (i = 0; !found && i < sizeof names / sizeof names[0]; i++) {
+        size_t length = strlen(names[i]);
+        found = bytes[colon] == ':' && colon > length && bytes[colon - length - 1] == '\n' &&
+                strncasecmp((const char *)bytes + colon - length, names[i], length) == 0;
+    }
+    return found;
+}
+
+/* The trailer: lines between the last chunk and the closing CRLF, none of them with a forbidden name. */
+static bool is_trailer(QzBody r, const uint8_t *bytes)
+{
+    size_t end = r.trailer_start + r.trailer_length;
+    bool kept = inside(r.trailer_start, r.trailer_length, r.taken) && end + 2 == r.taken &&
+                r.trailer_start > r.length + 2 && r.trailer_length <= TRAILER_LIMIT &&
+                memcmp(bytes + r.trailer_start - 2, "\r\n", 2) == 0 && memcmp(bytes + end - 2, "\r\n\r\n", 4) == 0;
+    size_t i;
+    for (i = r.trailer_start; kept && i < end; i++) {
+        kept = !ends_forbidden_name(bytes, i);
+    }
+    return kept;
+}
+
+static bool no_counts(QzBody r)
+{
+    return r.taken == 0 && r.length == 0 && r.trailer_start == 0 && r.trailer_length == 0;
+}
+
 static Answer of_QzBody(QzBody r, const Call *c)
 {
-    bool whole = r.state == QZ_WHOLE && r.number == 0 && r.taken <= c->a.length && r.length < r.taken;
-    bool other = (r.state == QZ_MORE ? r.number == 0 : r.state == QZ_REFUSED && r.number != 0) && r.taken == 0;
-    Answer x = answer(r.number, r.place, c->a.length, whole || (other && r.length == 0));
-    /* A malformed body has a byte that leaves no continuation: one that only ends too early is "more". */
-    x.sound = x.sound && (r.number != QZ_MALFORMED || r.place < c->a.length);
+    bool whole = r.state == QZ_WHOLE && r.number == 0 && r.taken <= c->a.length && r.length < r.taken &&
+                 is_trailer(r, c->a.bytes);
+    bool other = (r.state == QZ_MORE ? r.number == 0 : r.state == QZ_REFUSED && r.number != 0) && no_counts(r);
+    Answer x = answer(r.number, r.place, c->a.length, whole || other);
+    /* A refused body has a byte at the place: one that only ends too early is "more". */
+    x.sound = x.sound && (r.number == 0 || r.place < c->a.length) &&
+              (r.number != QZ_FORBIDDEN_FIELD || ends_forbidden_name(c->a.bytes, r.place));
     x.front = r.length;
     return x;
 }
 
 static Answer of_QzPieces(QzPieces r, const Call *c)
 {
-    bool begins = (r.position | r.part) == 0 && (r.size | r.length | r.total | r.taken | r.refused) == 0;
+    bool begins = (r.position | r.part | r.name) == 0 &&
+                  (r.size | r.length | r.total | r.taken | r.refused) == 0;
     return answer(0, 0, c->a.length, begins && r.room == (size_t)c->numbers[0]);
 }
 
@@ -280,6 +318,10 @@ static const char *const bodies[] = {"0\r\n\r\n",
                                      "1\r\na\r\n2;x\r\nbc\r\n0\r\n\r\n",
                                      "00A;a=b;c=\"d\\\"\"\r\n0\r\n\r\n0\r\n\r\n\r\n000;e\r\nA: b\r\n\r\n",
                                      "0\r\nExpires: Sun, 06 Nov 1994 08:49:37 GMT\r\nB:\t\xff\r\n\r\n",
+                                     "0\r\nTransfer-Encoding: chunked\r\n\r\n",
+                                     "1\r\na\r\n0\r\nA: b\r\nContent-Length: 5\r\n\r\n",
+                                     "0\r\ntrailer:\r\n\r\n",
+                                     "0\r\nTrailers: Trailer:\r\nContent-Lengt:\r\nX-Trailer:\r\n\r\n",
                                      "ffffffffffffffff1\r\n",
                                      NULL};
 static const char *const texts[] = {"hello", "0\r\n\r\n", NULL};
@@ -319,7 +361,7 @@ static uint8_t *lent(Block block, const Call *c)
     ROW(qz_url_read, (A), QzUrl, urls, NO(1) | NO(2) | NO(13))                                                       \
     ROW(qz_url_equal, (A, B), QzSame, urls, NO(1) | NO(2) | NO(13))                                                  \
     ROW(qz_products_read, (A), QzProducts, products, NO(1) | NO(12) | NO(13))                                        \
-    ROW(qz_chunked_decode, (A, OUT), QzBody, bodies, NO(1) | NO(5) | NO(6) | NO(7))                                  \
+    ROW(qz_chunked_decode, (A, OUT), QzBody, bodies, NO(1) | NO(5) | NO(6) | NO(7) | NO(15))                         \
     ROW(qz_chunked_encode, (A, (size_t)c->numbers[0], OUT), QzWritten, texts, NO(7) | NO(8) | NO(9))                 \
     ROW(qz_pieces_start, ((size_t)c->numbers[0]), QzPieces, texts, 0)                                                \
     ROW(qz_library_version, (), QzLibraryVersion, texts, 0)
@@ -345,7 +387,8 @@ typedef struct Entry {
 
 static const Entry entries[] = {
     ENTRIES(ENTRY)
-    {"qz_pieces_feed", call_qz_pieces_feed, bodies, NO(0) | NO(1) | NO(5) | NO(6) | NO(7) | NO(9) | NO(14)}};
+    {"qz_pieces_feed", call_qz_pieces_feed, bodies,
+     NO(0) | NO(1) | NO(5) | NO(6) | NO(7) | NO(9) | NO(14) | NO(15)}};
 enum { COUNT = sizeof entries / sizeof entries[0] };
 
 /* ---- the generator: xorshift64* */
@@ -442,11 +485,17 @@ static size_t grow(const char *sample, size_t length, uint8_t *draft)
     return size + more;
 }
 
+/* Some bytes are replaced; some letters change their case. */
 static void damage(uint8_t *draft, size_t length)
 {
     size_t left = length == 0 || below(2) == 0 ? 0 : 1 + below(3);
     for (; left > 0; left--) {
-        draft[below(length)] = below(4) == 0 ? (uint8_t)word() : byte_of(notable);
+        uint8_t *byte = draft + below(length);
+        if (below(2) == 0) {
+            *byte ^= 'a' ^ 'A';
+        } else {
+            *byte = below(4) == 0 ? (uint8_t)word() : byte_of(notable);
+        }
     }
 }
 
@@ -565,14 +614,15 @@ static uint8_t kept[ARENA]; /* what its output held before */
 
 static bool same_pieces(QzPieces a, QzPieces b)
 {
-    return a.position == b.position && a.part == b.part && a.size == b.size && a.length == b.length &&
-           a.total == b.total && a.taken == b.taken && a.room == b.room && a.refused == b.refused;
+    return a.position == b.position && a.part == b.part && a.name == b.name && a.size == b.size &&
+           a.length == b.length && a.total == b.total && a.taken == b.taken &&
+           a.room == b.room && a.refused == b.refused;
 }
 
 static bool same_body(QzBody a, QzBody b)
 {
     return a.state == b.state && a.number == b.number && a.place == b.place && a.taken == b.taken &&
-           a.length == b.length;
+           a.length == b.length && a.trailer_start == b.trailer_start && a.trailer_length == b.trailer_length;
 }
 
 /* How many bytes of data a state has written. In data, `size` bytes are left behind the next one. */
@@ -588,7 +638,7 @@ static bool is_listed(QzBody b)
     bool more = b.state == QZ_MORE && b.number == 0 && b.place == 0;
     bool refused = b.state == QZ_REFUSED && b.number != 0;
     bool whole = b.state == QZ_WHOLE && b.number == 0 && b.place == 0;
-    return whole || ((more || refused) && b.taken == 0 && b.length == 0);
+    return whole || ((more || refused) && no_counts(b));
 }
 
 static bool is_invalid(QzBody b)
@@ -615,9 +665,10 @@ static bool is_valid_answer(const QzFed *r)
     bool over = b.state != QZ_MORE;
     bool placed = b.state == QZ_REFUSED ? b.place == r->pieces.taken : true;
     bool counted = b.state == QZ_WHOLE ? b.taken == r->pieces.taken && b.length == filled(r->pieces) : true;
+    bool trailed = b.trailer_start <= b.taken && b.trailer_length <= TRAILER_LIMIT;
     return feeding.quota > 0 && feeding.out.length == feeding.pieces.room && r->pieces.room == feeding.pieces.room &&
            r->pieces.taken == feeding.pieces.taken + r->took && r->pieces.taken <= FRAMED_LIMIT &&
-           (over ? r->took <= offered : r->took == offered) && placed && counted && wrote_data(r);
+           (over ? r->took <= offered : r->took == offered) && placed && counted && trailed && wrote_data(r);
 }
 
 static bool output_as_before(void)
@@ -684,7 +735,7 @@ static bool as_in_one(QzBody b, const Call *c)
 {
     static uint8_t out[ARENA];
     QzBody one = qz_chunked_decode(c->a.bytes, c->a.length, out, c->out.length);
-    return same_body(b, one) && memcmp(out, c->out.bytes, b.length) == 0;
+    return of_QzBody(b, c).sound && same_body(b, one) && memcmp(out, c->out.bytes, b.length) == 0;
 }
 
 /* The input from the start, in pieces, with invalid calls between. */
@@ -730,6 +781,7 @@ static QzPieces draw_pieces(size_t room)
     QzPieces p;
     p.position = (uint8_t)(below(8) == 0 ? word() : below(9));
     p.part = (uint8_t)(below(8) == 0 ? word() : below(10));
+    p.name = (uint8_t)(below(2) == 0 ? word() : below(SHORT));
     p.size = draw_field(room);
     p.length = below(2) == 0 ? draw_length() : draw_field(room);
     p.total = draw_field(room);
@@ -841,8 +893,10 @@ static uint64_t calls[COUNT][NUMBERS];
 static void show_feeding(void)
 {
     QzPieces p = feeding.pieces;
-    fprintf(stderr, "position %u, part %u, size %zu, length %zu, total %zu, taken %zu, room %zu, refused %zu\n",
-            (unsigned)p.position, (unsigned)p.part, p.size, p.length, p.total, p.taken, p.room, p.refused);
+    fprintf(stderr, "position %u, part %u, name %u, ", (unsigned)p.position, (unsigned)p.part,
+            (unsigned)p.name);
+    fprintf(stderr, "size %zu, length %zu, total %zu, taken %zu, room %zu, refused %zu\n", p.size, p.length, p.total,
+            p.taken, p.room, p.refused);
     fprintf(stderr, "quota %zu, output lent: %zu bytes\n", feeding.quota, feeding.out.length);
     show("piece", &feeding.piece);
 }

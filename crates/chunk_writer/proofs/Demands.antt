@@ -1,7 +1,7 @@
 -- What the writer's frame is, over the grammar of chunked bodies, and that it reads back. The words quoted are those of document 01.
 use mathlib.Core.Path.{_≡_, refl, sym, _∙_, ap, subst}
 use mathlib.Core.List.{List, [], _++_}
-use Prim.Native.Nat.{ℕ, _<_, _≤_}
+use Prim.Native.Nat.{ℕ, _-_, _<_, _≤_}
 use Prim.Native.Char.{code}
 use native.Mathlib.Omega.{arith}
 use lib.ListN.{length, getD, take, drop}
@@ -46,22 +46,30 @@ pub frames : (body : List ℕ) (n : ℕ) → Many octet? body → 0 < n → Body
 unfolding frame
 frames body n m p = subst (Body (framed (chunks-of n body))) (joined-cut n body p) (framed-body (chunks-of n body) (pieces-of n body p m))
 
+abbrev told-of : List ℕ → ℕ → Whole
+told-of body n = record {
+  taken = length (frame body n);
+  length = length body;
+  «trailer_start» = length (frame body n) - 2;
+  «trailer_length» = 0;
+}
+
 -- it reads back, in every room that holds the body, at every chunk length that the writer accepts: whole, all of it taken, the
--- body's length
+-- body's length, and no trailer before the closing CRLF
 pub reads-back : (r : ℕ) (body : List ℕ) (n : ℕ) → Many octet? body → 0 < n → length body ≤ BODY_LIMIT → length body ≤ r
-    → decode r (frame body n) ≡ whole (record { taken = length (frame body n); length = length body })
+    → decode r (frame body n) ≡ whole (told-of body n)
 unfolding frame
 reads-back r body n m p small l =
     let j : joined (chunks-of n body) ≡ body = joined-cut n body p in
     let k : length (joined (chunks-of n body)) ≡ length body = ap length j in
     reads-framed r (chunks-of n body) (pieces-of n body p m) (omega arith) (omega arith)
-    ∙ ap (λ (m : ℕ). whole (tell (length (framed (chunks-of n body))) (record { length = m }))) k
+    ∙ ap (λ (m : ℕ). whole (tell (length (framed (chunks-of n body))) (record { length = m; trailer = 0 }))) k
 
 -- and what is written then is the body
 pub writes-back : (r : ℕ) (body : List ℕ) (n : ℕ) → Many octet? body → 0 < n → length body ≤ BODY_LIMIT → length body ≤ r
     → decoded r (frame body n) ≡ body
 writes-back r body n m p small l =
-    let told : Whole = record { taken = length (frame body n); length = length body } in
+    let told : Whole = told-of body n in
     let w : (d : List ℕ) × BeginsWhole (chunked limits) r (frame body n) told d
     = Framing.whole r (frame body n) told .0 (reads-back r body n m p small l) in
     let all : take (w .1 .count) (frame body n) ≡ frame body n

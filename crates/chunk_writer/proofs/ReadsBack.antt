@@ -142,48 +142,48 @@ module _ (r : ℕ) where
   unfolding hex?
   zero-hex = refl
 
-  skip-end : (t : ℕ) → t ≤ r → Skips (Line First 0 t) (48 ∷ 13 ∷ 10 ∷ 13 ∷ []) (EndLf t)
+  skip-end : (t : ℕ) → t ≤ r → Skips (Line First 0 t) (48 ∷ 13 ∷ 10 ∷ 13 ∷ []) (EndLf t 0)
   skip-end t l =
-      byte (Line First 0 t) (Line (Size 0) 1 t) (EndLf t) 48 (13 ∷ 10 ∷ 13 ∷ []) (step-first 48 t zero-hex)
+      byte (Line First 0 t) (Line (Size 0) 1 t) (EndLf t 0) 48 (13 ∷ 10 ∷ 13 ∷ []) (step-first 48 t zero-hex)
       (Turns.size-quiet r 0 1 t (λ z. omega arith) (omega arith))
-      (byte (Line (Size 0) 1 t) (LineFeed 0 t) (EndLf t) 13 (10 ∷ 13 ∷ []) (step-line-cr 0 1 t) (Turns.quiet-feed r 0 t)
-      (byte (LineFeed 0 t) (Trail (trailer .begin) 0 t) (EndLf t) 10 (13 ∷ []) (Turns.feed-lf 10 0 t refl ∙ Turns.enter-last 0 t refl) (Turns.quiet-trailer r t)
-      (byte (Trail (trailer .begin) 0 t) (EndLf t) (EndLf t) 13 [] (Turns.trail-close 13 (trailer .begin) 0 t refl) (Turns.quiet-end r t) (stay (EndLf t)))))
+      (byte (Line (Size 0) 1 t) (LineFeed 0 t) (EndLf t 0) 13 (10 ∷ 13 ∷ []) (step-line-cr 0 1 t) (Turns.quiet-feed r 0 t)
+      (byte (LineFeed 0 t) (Trail (trailer .begin) 0 t) (EndLf t 0) 10 (13 ∷ []) (Turns.feed-lf 10 0 t refl ∙ Turns.enter-last 0 t refl) (Turns.quiet-trailer r t)
+      (byte (Trail (trailer .begin) 0 t) (EndLf t 0) (EndLf t 0) 13 [] (Turns.trail-close 13 (trailer .begin) 0 t refl) (Turns.quiet-end r t 0) (stay (EndLf t 0)))))
 
-  scan-end : (t i : ℕ) → t ≤ r → scan step (judge r) (Line First 0 t) i end ≡ stop (i + 4) (ended (record { length = t }))
+  scan-end : (t i : ℕ) → t ≤ r → scan step (judge r) (Line First 0 t) i end ≡ stop (i + 4) (ended (record { length = t; trailer = 0 }))
   scan-end t i l =
       skip-end t l i (10 ∷ [])
-      ∙ ap (λ (z : State). note (i + 4) (judge r z) (scan step (judge r) z (suc (i + 4)) [])) (Turns.end-lf 10 t refl)
-      ∙ ap (λ (v : Option (Verdict End)). note (i + 4) v (scan step (judge r) (Done t) (suc (i + 4)) [])) (Turns.ended-done r t)
+      ∙ ap (λ (z : State). note (i + 4) (judge r z) (scan step (judge r) z (suc (i + 4)) [])) (Turns.end-lf 10 t 0 refl)
+      ∙ ap (λ (v : Option (Verdict End)). note (i + 4) v (scan step (judge r) (Done t 0) (suc (i + 4)) [])) (Turns.ended-done r t 0)
 
   scan-framed : (pieces : List (List ℕ)) (t i j : ℕ) → Pieces pieces → length (joined pieces) < 2 ^ 64 → t + length (joined pieces) ≤ r
       → i + length (framed pieces) ≡ suc j
-      → scan step (judge r) (Line First 0 t) i (framed pieces) ≡ stop j (ended (record { length = t + length (joined pieces) }))
+      → scan step (judge r) (Line First 0 t) i (framed pieces) ≡ stop j (ended (record { length = t + length (joined pieces); trailer = 0 }))
   unfolding framed joined
   scan-framed [] t i j Bodies.none small l e =
       let n : i + 4 ≡ j = omega arith in
       let m : t ≡ t + 0 = omega arith in
-      scan-end t i (omega arith) ∙ ap₂ (λ (k u : ℕ). stop k (ended (record { length = u }))) n m
+      scan-end t i (omega arith) ∙ ap₂ (λ (k u : ℕ). stop k (ended (record { length = u; trailer = 0 }))) n m
   scan-framed (xs ∷ pieces) t i j (Bodies.more z m ps) small l e =
       let n : length (xs ++ joined pieces) ≡ length xs + length (joined pieces) = length-append xs (joined pieces) in
       let u : t + length xs + length (joined pieces) ≡ t + length (xs ++ joined pieces) = omega arith in
       skip-chunk xs t z (omega arith) m (omega arith) i (framed pieces)
       ∙ scan-framed pieces (t + length xs) (i + length (chunk xs)) j ps (omega arith) (omega arith)
       (omega (arith, length-append (chunk xs) (framed pieces)))
-      ∙ ap (λ (k : ℕ). stop j (ended (record { length = k }))) u
+      ∙ ap (λ (k : ℕ). stop j (ended (record { length = k; trailer = 0 }))) u
 
   framed-some-byte : (pieces : List (List ℕ)) → 0 < length (framed pieces)
   unfolding framed
   framed-some-byte [] = omega arith
   framed-some-byte (xs ∷ pieces) = omega (arith, length-append (chunk xs) (framed pieces), framed-some-byte pieces)
 
-  -- a frame of any pieces is read whole
+  -- a frame of any pieces is read whole, without a trailer
   pub reads-framed : (pieces : List (List ℕ)) → Pieces pieces → length (joined pieces) < 2 ^ 64 → length (joined pieces) ≤ r
-      → decode r (framed pieces) ≡ whole (record { taken = length (framed pieces); length = length (joined pieces) })
+      → decode r (framed pieces) ≡ whole (tell (length (framed pieces)) (record { length = length (joined pieces); trailer = 0 }))
   unfolding judge decode answer
   reads-framed pieces ps small l =
       let some : 0 < length (framed pieces) = framed-some-byte pieces in
       let e : 0 + length (framed pieces) ≡ suc (length (framed pieces) - 1) = omega arith in
       let s : suc (length (framed pieces) - 1) ≡ length (framed pieces) = omega arith in
       let t : 0 + length (joined pieces) ≡ length (joined pieces) = omega arith in
-      ap (answer tell) (scan-framed pieces 0 0 (length (framed pieces) - 1) ps small (omega arith) e) ∙ ap₂ (λ (n k : ℕ). whole (tell n (record { length = k }))) s t
+      ap (answer tell) (scan-framed pieces 0 0 (length (framed pieces) - 1) ps small (omega arith) e) ∙ ap₂ (λ (n k : ℕ). whole (tell n (record { length = k; trailer = 0 }))) s t

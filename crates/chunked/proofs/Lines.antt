@@ -16,7 +16,7 @@ use Rattle.framing.specs.declared.ExtPos.{ExtPos}
 use Rattle.framing.specs.declared.LinePos.{LinePos}
 use Rattle.framing.specs.declared.LinePos.the-variants.{First, Size, Ext}
 use Rattle.framing.specs.declared.State.the-variants.{Line, LineFeed, Data, Trail, EndLf}
-use Rattle.framing.specs.helpers.Machine.{extensions, lineStep, lineEnds, TrailerAt, trailer, step, live, tell}
+use Rattle.framing.specs.helpers.Machine.{extensions, lineStep, lineEnds, TrailerAt, trailer, atForbidden, step, live}
 use Rattle.framing.specs.Reading.{decode}
 use Rattle.framing.proofs.Scanning.{run-append}
 use Rattle.framing.proofs.Lines.{lineRun, line-complete}
@@ -235,8 +235,8 @@ module _ {room : ℕ} {xs : List ℕ} where
       subst (λ (n : ℕ). At room xs (Trail (trailer .begin) n t) i) z at
 
   pub trail-closed : {t k n : ℕ} {p : TrailerAt} → At room xs (Trail p n t) k → k < length xs
-      → (trailer .ends p && eqb (getD xs k 0) 13) ≡ true → At room xs (EndLf t) (k + 1)
-  trail-closed {t} {k} {n} {p} at lt h = at-next at lt (Turns.trail-close (getD xs k 0) p n t h) (Turns.quiet-end room t)
+      → (trailer .ends p && eqb (getD xs k 0) 13) ≡ true → At room xs (EndLf t n) (k + 1)
+  trail-closed {t} {k} {n} {p} at lt h = at-next at lt (Turns.trail-close (getD xs k 0) p n t h) (Turns.quiet-end room t n)
 
   pub trail-into : {t k : ℕ} {p q : TrailerAt} (i : ℕ) → i ≤ k → At room xs (Trail p (k - i) t) k → k < length xs
       → (trailer .ends p && eqb (getD xs k 0) 13) ≡ false → q ≡ trailer .next p (getD xs k 0) → Into room xs q i t k
@@ -255,15 +255,23 @@ module _ {room : ℕ} {xs : List ℕ} where
     pub trail-long : trailer .alive q ≡ true → k - i ≡ TRAILER_LIMIT → Framing.refused 6 k ≡ decode room xs
     trail-long f z = at-refuse (into .at) (into .inside) (into .steps) (Turns.trail-six room q (suc (k - i)) t f (omega arith))
 
-    pub trail-on : trailer .alive q ≡ true → (k - i ≡ TRAILER_LIMIT → ⊥) → At room xs (Trail q (k + 1 - i) t) (k + 1)
-    trail-on f short =
+    pub trail-forbidden : trailer .alive q ≡ true → (k - i ≡ TRAILER_LIMIT → ⊥) → atForbidden q ≡ true → Framing.refused 15 k ≡ decode room xs
+    trail-forbidden f short z =
+        at-refuse (into .at) (into .inside) (into .steps) (Turns.trail-fifteen room q (suc (k - i)) t f (λ y. short (omega arith)) z)
+
+    pub trail-on : trailer .alive q ≡ true → (k - i ≡ TRAILER_LIMIT → ⊥) → atForbidden q ≡ false → At room xs (Trail q (k + 1 - i) t) (k + 1)
+    trail-on f short e =
         let z : suc (k - i) ≡ k + 1 - i = omega (arith, into .starts) in
         subst (λ (n : ℕ). At room xs (Trail q n t) (k + 1)) z
-        (at-next (into .at) (into .inside) (into .steps) (Turns.trail-quiet room q (suc (k - i)) t f (λ y. short (omega arith))))
+        (at-next (into .at) (into .inside) (into .steps) (Turns.trail-quiet room q (suc (k - i)) t f (λ y. short (omega arith)) e))
 
-  module _ {t k : ℕ} (at : At room xs (EndLf t) k) (lt : k < length xs) where
-    pub close-refused : (getD xs k 0 ≡ 10 → ⊥) → Framing.refused 1 k ≡ decode room xs
-    close-refused h = at-refuse at lt (Turns.end-other (getD xs k 0) t h) (Turns.no-more room)
+  module _ {t i k : ℕ} (starts : i ≤ k) (at : At room xs (EndLf t (k - i)) (k + 1)) (lt : k + 1 < length xs) where
+    pub close-refused : (getD xs (k + 1) 0 ≡ 10 → ⊥) → Framing.refused 1 (k + 1) ≡ decode room xs
+    close-refused h = at-refuse at lt (Turns.end-other (getD xs (k + 1) 0) t (k - i) h) (Turns.no-more room)
 
-    pub close-whole : getD xs k 0 ≡ 10 → Framing.whole (tell (k + 1) (record { length = t })) ≡ decode room xs
-    close-whole h = at-end at lt (Turns.end-lf (getD xs k 0) t h) (Turns.ended-done room t)
+    pub close-whole : getD xs (k + 1) 0 ≡ 10
+        → Framing.whole (record { taken = k + 2; length = t; «trailer_start» = i; «trailer_length» = k - i }) ≡ decode room xs
+    close-whole h =
+        ap₂ (λ (m n : ℕ). Framing.whole (record { taken = m; length = t; «trailer_start» = n; «trailer_length» = k - i }))
+        (omega arith) (omega arith)
+        ∙ at-end at lt (Turns.end-lf (getD xs (k + 1) 0) t (k - i) h) (Turns.ended-done room t (k - i))

@@ -18,6 +18,7 @@ use framing::TRAILER_LIMIT;
 use framing::TrailPos;
 use framing::Whole;
 use octets::BODY_TOO_LARGE;
+use octets::FORBIDDEN_FIELD;
 use octets::LINE_TOO_LONG;
 use octets::MALFORMED;
 use octets::Refusal;
@@ -289,7 +290,7 @@ fn trailer(input: &[u8], start: usize, total: usize, room: usize) -> Answer
     while at < input.len() {
         let byte = input[at];
         if positions::closes(pos, byte) {
-            return close(input, at + 1, total, room);
+            return close(input, start, at, total, room);
         }
         pos = positions::trail_step(pos, byte);
         if !positions::trail_live(pos) {
@@ -298,24 +299,29 @@ fn trailer(input: &[u8], start: usize, total: usize, room: usize) -> Answer
         if at - start == TRAILER_LIMIT {
             return refuse(TRAILER_TOO_LONG, at);
         }
+        if positions::is_forbidden(pos) {
+            return refuse(FORBIDDEN_FIELD, at);
+        }
         at += 1;
     }
     Answer::More
 }
 
-// Behind the CR that closes a body.
-fn close(input: &[u8], at: usize, total: usize, room: usize) -> Answer
-    requires { ⌜ At room (now input) (EndLf total) at ⌝ }
+// Behind the CR at `end` that closes a body, whose trailer is at `start`.
+fn close(input: &[u8], start: usize, end: usize, total: usize, room: usize) -> Answer
+    requires { ⌜ (start ≤ end) × At room (now input) (EndLf total (end - start)) (end + 1) ⌝ }
     ensures { λ r. ⌜ Last room (now (input .entry)) total r ⌝ }
 {
-    if input.len() <= at {
+    if input.len() - end <= 1 {
         return Answer::More;
     }
-    if input[at] != b'\n' {
-        return refuse(MALFORMED, at);
+    if input[end + 1] != b'\n' {
+        return refuse(MALFORMED, end + 1);
     }
     Answer::Whole(Whole {
-        taken: at + 1,
+        taken: end + 2,
         length: total,
+        trailer_start: start,
+        trailer_length: end - start,
     })
 }

@@ -17,7 +17,19 @@ abbrev pub written-fields : Verdict ℕ → QzWritten
 written-fields (value n) = record { number = 0; place = 0; length = n }
 written-fields (refused n p) = record { number = n; place = p; length = 0 }
 
+-- of a body that is not whole nothing is told
+abbrev unended : ℕ → ℕ → ℕ → QzBody
+unended s n p = record { state = s; number = n; place = p; taken = 0; length = 0; «trailer_start» = 0; «trailer_length» = 0 }
+
 abbrev pub body-fields : Body.Answer Whole → QzBody
-body-fields (Body.whole w) = record { state = 0; number = 0; place = 0; taken = w .taken; length = w .length }
-body-fields Body.more = record { state = 1; number = 0; place = 0; taken = 0; length = 0 }
-body-fields (Body.refused n p) = record { state = 2; number = n; place = p; taken = 0; length = 0 }
+body-fields (Body.whole w) = record {
+  state = 0;
+  number = 0;
+  place = 0;
+  taken = w .taken;
+  length = w .length;
+  «trailer_start» = w .«trailer_start»;
+  «trailer_length» = w .«trailer_length»;
+}
+body-fields Body.more = unended 1 0 0
+body-fields (Body.refused n p) = unended 2 n p

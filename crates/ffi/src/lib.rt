@@ -57,6 +57,9 @@ pub struct QzBody {
     pub taken: usize,
     // how many bytes of data were written
     pub length: usize,
+    // where the trailer stands: all its lines, without the closing CRLF; without a trailer, the place of the closing CRLF and 0
+    pub trailer_start: usize,
+    pub trailer_length: usize,
 }
 
 // Two inputs that were read.
@@ -124,6 +127,8 @@ pub fn body_of(a: Answer) -> QzBody
             place: 0,
             taken: body.taken,
             length: body.length,
+            trailer_start: body.trailer_start,
+            trailer_length: body.trailer_length,
         },
         Answer::More => QzBody {
             state: MORE,
@@ -131,6 +136,8 @@ pub fn body_of(a: Answer) -> QzBody
             place: 0,
             taken: 0,
             length: 0,
+            trailer_start: 0,
+            trailer_length: 0,
         },
         Answer::Refused(r) => QzBody {
             state: REFUSED,
@@ -138,6 +145,8 @@ pub fn body_of(a: Answer) -> QzBody
             place: r.place,
             taken: 0,
             length: 0,
+            trailer_start: 0,
+            trailer_length: 0,
         },
     }
 }

@@ -5,6 +5,7 @@ use lib.Dec.{eqb}
 use Rattle.grammar.specs.Refusals.{OUT_OF_RANGE}
 use Rattle.framing.specs.declared.Whole.{Whole}
 use Rattle.framing.specs.Answer.{Answer}
+use Rattle.position_numbers.specs.declared.Numbers.{Numbers}
 use Rattle.position_numbers.specs.Numbers.{numbers-of, place-of}
 use Rattle.pieces.specs.declared.Pieces.{Pieces}
 use Rattle.pieces.specs.Reading.{filled}
@@ -17,6 +18,7 @@ abbrev pub pieces-fields : Pieces → QzPieces
 pieces-fields s = record {
   position = numbers-of (s .position) .position;
   part = numbers-of (s .position) .part;
+  name = numbers-of (s .position) .name;
   size = numbers-of (s .position) .size;
   length = numbers-of (s .position) .length;
   total = numbers-of (s .position) .total;
@@ -26,9 +28,19 @@ pieces-fields s = record {
 }
 
 -- and back
+abbrev numbers : QzPieces → Numbers
+numbers q = record {
+  position = q .position;
+  part = q .part;
+  name = q .name;
+  size = q .size;
+  length = q .length;
+  total = q .total;
+}
+
 abbrev pub pieces-of : QzPieces → Pieces
 pieces-of q = record {
-  position = place-of (record { position = q .position; part = q .part; size = q .size; length = q .length; total = q .total });
+  position = place-of (numbers q);
   taken = q .taken;
   room = q .room;
   refused = q .refused;

@@ -13,6 +13,7 @@ use position_numbers::Numbers;
 pub struct QzPieces {
     pub position: u8,
     pub part: u8,
+    pub name: u8,
     pub size: usize,
     pub length: usize,
     pub total: usize,
@@ -91,6 +92,7 @@ fn pieces_fields(s: Pieces) -> QzPieces
     QzPieces {
         position: n.position,
         part: n.part,
+        name: n.name,
         size: n.size,
         length: n.length,
         total: n.total,
@@ -107,6 +109,7 @@ fn pieces_of(q: QzPieces) -> Pieces
     let place = position_numbers::place_of(Numbers {
         position: q.position,
         part: q.part,
+        name: q.name,
         size: q.size,
         length: q.length,
         total: q.total,

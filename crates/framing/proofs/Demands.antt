@@ -2,14 +2,14 @@
 use mathlib.Core.Path.{_≡_, refl, _∙_, ap}
 use mathlib.Core.List.{List, _∷_, _++_}
 use mathlib.Core.Logic.{_↔_}
-use Prim.Native.Nat.{ℕ, _<_, _≤_}
+use Prim.Native.Nat.{ℕ, _+_, _<_, _≤_}
 use native.Mathlib.Omega.{arith}
-use lib.ListN.{length, drop}
+use lib.ListN.{length, take, drop}
 use lib.Seq.{length-take-le}
-use Rattle.grammar.specs.Refusals.{MALFORMED, LINE_TOO_LONG, TRAILER_TOO_LONG, BODY_TOO_LARGE}
+use Rattle.grammar.specs.Refusals.{MALFORMED, LINE_TOO_LONG, TRAILER_TOO_LONG, BODY_TOO_LARGE, FORBIDDEN_FIELD}
 use Rattle.framing.specs.declared.Whole.{Whole}
 use Rattle.framing.specs.Grammar as G
-use Rattle.framing.specs.Grammar.{Body, Broken, limits, chunked}
+use Rattle.framing.specs.Grammar.{Trailer, Body, HasTrailer, Broken, limits, chunked}
 use Rattle.framing.specs.Answer as Answer
 use Rattle.framing.specs.Answer.{Answer}
 use Rattle.framing.specs.Demand.{rank, Among, Live, BeginsWhole, Unfinished, Malformed, Over, Decodes, Nothing}
@@ -18,6 +18,7 @@ use Rattle.framing.specs.helpers.Scan.{nothing, decode-by, decoded-by}
 use Rattle.framing.specs.Reading.{judge, found, decode, decoded, decode-output}
 use Rattle.framing.proofs.Machines as Machines
 use Rattle.framing.proofs.Judging.{laws}
+use Rattle.framing.proofs.Trailers as Trailers
 use Rattle.framing.proofs.Rooms.{same, lifts}
 
 -- all that is asked, of the machine under every list of limits without 1, whatever is written of bytes that are not a whole body
@@ -29,15 +30,17 @@ under ls other = Machines.decodes (chunked ls) machine tell (λ r. laws ls r oth
 pub malformed-no-limit : Among limits MALFORMED → ⊥
 malformed-no-limit a = omega arith
 
--- "at one byte: 1, 5, 6, 7"; the byte that gets 1 leaves no continuation, so that it breaks no limit (`broken-live`)
+-- "at one byte: 1, 5, 6, 7", then 15; the byte that gets 1 leaves no continuation, so that it breaks no limit (`broken-live`)
 pub in-order : (rank limits LINE_TOO_LONG < rank limits TRAILER_TOO_LONG) × (rank limits TRAILER_TOO_LONG < rank limits BODY_TOO_LARGE)
-in-order = (omega arith, omega arith)
+    × (rank limits BODY_TOO_LARGE < rank limits FORBIDDEN_FIELD)
+in-order = (omega arith, omega arith, omega arith)
 
 -- each limit that the grammar states is one of them
 pub all-limits : (r n : ℕ) (p : List ℕ) → Broken r n p → Among limits n
 all-limits r n p (G.longLine i e) = omega arith
 all-limits r n p (G.longTrailer i e) = omega arith
 all-limits r n p (G.noRoom i fits passes) = omega arith
+all-limits r n p (G.forbiddenField i e) = omega arith
 
 -- all that is asked of document 01's reader, at once
 pub demands : Decodes (chunked limits) Nothing decode decoded
@@ -54,6 +57,17 @@ module _ (r : ℕ) (s : List ℕ) where
   pub taken : {w : Whole} {d : List ℕ} (b : BeginsWhole (chunked limits) r s w d) → w .taken ≡ b .count
   taken b = b .tells .taken ∙ length-take-le (b .count) s (b .inside)
 
+  -- "The record of a whole body gains the trailer's start and length": there stand the bytes of the trailer of the body that was read,
+  -- all its lines
+  pub trailer-bytes : {w : Whole} {d : List ℕ} (b : BeginsWhole (chunked limits) r s w d)
+      → (take (w .«trailer_length») (drop (w .«trailer_start») s) ≡ b .tells .trailer) × Trailer (b .tells .trailer)
+  trailer-bytes b = Trailers.told-bytes s (b .count) (b .tells)
+
+  -- and behind it the closing CRLF: "Without one, the start is the closing CRLF and the length 0"
+  pub trailer-closes : {w : Whole} {d : List ℕ} → BeginsWhole (chunked limits) r s w d
+      → w .«trailer_start» + w .«trailer_length» + 2 ≡ w .taken
+  trailer-closes b = Trailers.told-closes (b .tells)
+
   -- "more": no limit is broken, no beginning is a body, and some continuation makes one
   pub more : (decode r s ≡ Answer.more) ↔ Unfinished (chunked limits) r s
   more = demands .more r s
@@ -62,7 +76,7 @@ module _ (r : ℕ) (s : List ℕ) where
   pub malformed : (p : ℕ) → (decode r s ≡ Answer.refused MALFORMED p) ↔ Malformed (chunked limits) r s p
   malformed = demands .malformed r s
 
-  -- rows 5, 6 and 7: "In a chunked body the lowest place, and at one byte: 1, 5, 6, 7"; "A limit (row 5, 6 or 7) is broken by a
+  -- rows 5, 6, 7 and 15: "In a chunked body the lowest place, and at one byte: 1, 5, 6, 7"; "A limit (row 5, 6 or 7) is broken by a
   -- byte that leaves a continuation and is the place its row names"
   pub limit : (n p : ℕ) → (n ≡ MALFORMED → ⊥) → (decode r s ≡ Answer.refused n p) ↔ Over (chunked limits) r s n p
   limit = demands .limit r s
@@ -98,6 +112,9 @@ prefix-free = Machines.prefix-free (chunked limits) machine tell 0 (laws limits 
 
 pub one-reading : (p d e : List ℕ) → Body p d → Body p e → d ≡ e
 one-reading = Machines.one-reading (chunked limits) machine tell 0 (laws limits 0 malformed-no-limit)
+
+pub one-trailer : {p t u : List ℕ} {n m : ℕ} → HasTrailer p n t → HasTrailer p m u → (n ≡ m) × (t ≡ u)
+one-trailer = Trailers.one-trailer
 
 -- "A byte leaves a continuation when the bytes up to and with it have one": the byte that breaks a limit does
 pub broken-live : (r n : ℕ) (p : List ℕ) → Broken r n p → Live Body p

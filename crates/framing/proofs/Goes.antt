@@ -14,7 +14,7 @@ use Rattle.framing.specs.declared.State.{State}
 use Rattle.framing.specs.declared.State.the-variants.{Line, LineFeed, Data, DataCr, DataLf, Trail, EndLf, Done, Dead}
 use Rattle.framing.specs.Grammar as G
 use Rattle.octets.specs.Bytes.{octet?, hex?}
-use Rattle.framing.specs.Grammar.{Many, Trailer, Chunk, Chunks, Body}
+use Rattle.framing.specs.Grammar.{Many, Trailer, Chunk, Chunks}
 use Rattle.framing.specs.helpers.Machine.{lineStep, lineEnds, lineLive, TrailerAt, trailer}
 use Rattle.framing.specs.helpers.Machine.{leaveLine, enterChunk, step, emit, live, start}
 use Rattle.framing.specs.helpers.Scan.{run, out}
@@ -175,7 +175,7 @@ unfolding step
 step-trail p b k t h = go (trailer .ends p) (eqb b 13) refl refl
   where
     go : (x y : Bool) → trailer .ends p ≡ x → eqb b 13 ≡ y
-        → cond (x && y) (EndLf t) (Trail (trailer .next p b) (suc k) t) ≡ Trail (trailer .next p b) (suc k) t
+        → cond (x && y) (EndLf t k) (Trail (trailer .next p b) (suc k) t) ≡ Trail (trailer .next p b) (suc k) t
     go true true e f = false-true (sym (trailer-no-cr p e) ∙ rw (eqb-true b 13 f) at h)
     go true false e f = refl
     go false y e f = refl
@@ -193,44 +193,48 @@ goes-trail (b ∷ l) p k t h =
     (subst (λ (n : ℕ). Goes (Trail (trailer .next p b) (suc k) t) l [] (Trail (at trailer (trailer .next p b) l) n t)) (omega arith)
     (goes-trail l (trailer .next p b) (suc k) t h))
 
-trail-cr : (p : TrailerAt) (k t : ℕ) → trailer .ends p ≡ true → step (Trail p k t) 13 ≡ EndLf t
+trail-cr : (p : TrailerAt) (k t : ℕ) → trailer .ends p ≡ true → step (Trail p k t) 13 ≡ EndLf t k
 unfolding step
-trail-cr p k t e = ap (λ (x : Bool). cond (x && true) (EndLf t) (Trail (trailer .next p 13) (suc k) t)) e
+trail-cr p k t e = ap (λ (x : Bool). cond (x && true) (EndLf t k) (Trail (trailer .next p 13) (suc k) t)) e
 
-end-lf : (t : ℕ) → step (EndLf t) 10 ≡ Done t
+end-lf : (t n : ℕ) → step (EndLf t n) 10 ≡ Done t n
 unfolding step
-end-lf t = refl
+end-lf t n = refl
 
-emit-end : (t b : ℕ) → emit (EndLf t) b ≡ []
+emit-end : (t n b : ℕ) → emit (EndLf t n) b ≡ []
 unfolding emit
-emit-end t b = refl
+emit-end t n b = refl
 
-pub goes-end : (t : ℕ) → Goes (EndLf t) (10 ∷ []) [] (Done t)
-goes-end t = byte (EndLf t) 10 (end-lf t) (emit-end t 10) (stay (Done t))
+pub goes-end : (t n : ℕ) → Goes (EndLf t n) (10 ∷ []) [] (Done t n)
+goes-end t n = byte (EndLf t n) 10 (end-lf t n) (emit-end t n 10) (stay (Done t n))
 
-pub goes-close : (p : TrailerAt) (k t : ℕ) → trailer .ends p ≡ true → Goes (Trail p k t) (13 ∷ 10 ∷ []) [] (Done t)
-goes-close p k t e = byte (Trail p k t) 13 (trail-cr p k t e) (emit-trail p 13 k t) (goes-end t)
+pub goes-close : (p : TrailerAt) (k t : ℕ) → trailer .ends p ≡ true → Goes (Trail p k t) (13 ∷ 10 ∷ []) [] (Done t k)
+goes-close p k t e = byte (Trail p k t) 13 (trail-cr p k t e) (emit-trail p 13 k t) (goes-end t k)
 
 pub goes-last-line : {l : List ℕ} (t : ℕ) → G.Line l 0 → Goes (Line First 0 t) (l ++ (13 ∷ 10 ∷ [])) [] (Trail (trailer .begin) 0 t)
 goes-last-line {l} t h = subst (Goes (Line First 0 t) (l ++ (13 ∷ 10 ∷ [])) []) (enter-trail t) (goes-whole-line t h)
 
 -- the trailer and what closes it
-goes-trailer : {y : List ℕ} (t : ℕ) → Trailer y → Goes (Trail (trailer .begin) 0 t) (y ++ (13 ∷ 10 ∷ [])) [] (Done t)
+goes-trailer : {y : List ℕ} (t : ℕ) → Trailer y → Goes (Trail (trailer .begin) 0 t) (y ++ (13 ∷ 10 ∷ [])) [] (Done t (length y))
 goes-trailer {y} t h =
     let e : trailer .ends (at trailer (trailer .begin) y) ≡ true = trailer-read .sound y h in
-    then (goes-trail y (trailer .begin) 0 t (trailer-read .ends-alive (at trailer (trailer .begin) y) e))
-    (goes-close (at trailer (trailer .begin) y) (0 + length y) t e)
+    subst (λ (n : ℕ). Goes (Trail (trailer .begin) 0 t) (y ++ (13 ∷ 10 ∷ [])) [] (Done t n)) (omega arith)
+    (then (goes-trail y (trailer .begin) 0 t (trailer-read .ends-alive (at trailer (trailer .begin) y) e))
+    (goes-close (at trailer (trailer .begin) y) (0 + length y) t e))
 
 -- ## A body
 -- the last chunk, the trailer and what closes it
-pub goes-last : {l y : List ℕ} (t : ℕ) → G.Line l 0 → Trailer y → Goes (Line First 0 t) (l ++ (13 ∷ 10 ∷ (y ++ (13 ∷ 10 ∷ [])))) [] (Done t)
+pub goes-last : {l y : List ℕ} (t : ℕ) → G.Line l 0 → Trailer y
+    → Goes (Line First 0 t) (l ++ (13 ∷ 10 ∷ (y ++ (13 ∷ 10 ∷ [])))) [] (Done t (length y))
 goes-last {l} {y} t h k =
-    subst (λ (z : List ℕ). Goes (Line First 0 t) z [] (Done t)) (append-assoc l (13 ∷ 10 ∷ []) (y ++ (13 ∷ 10 ∷ [])))
+    subst (λ (z : List ℕ). Goes (Line First 0 t) z [] (Done t (length y))) (append-assoc l (13 ∷ 10 ∷ []) (y ++ (13 ∷ 10 ∷ [])))
     (then (goes-last-line t h) (goes-trailer t k))
 
-pub goes-body : {xs d : List ℕ} → Body xs d → Goes start xs d (Done (length d))
-goes-body (G.body {c = c} {d = d} {l = l} {t = t} cs h y) =
-    subst (λ (z : List ℕ). Goes start (c ++ (l ++ (13 ∷ 10 ∷ (t ++ (13 ∷ 10 ∷ []))))) z (Done (length d))) (append-nil d)
+-- by its chunks, its last line and its trailer
+pub goes-parts : {c d l t : List ℕ} → Chunks c d → G.Line l 0 → Trailer t
+    → Goes start (c ++ (l ++ (13 ∷ 10 ∷ (t ++ (13 ∷ 10 ∷ []))))) d (Done (length d) (length t))
+goes-parts {c} {d} {l} {t} cs h y =
+    subst (λ (z : List ℕ). Goes start (c ++ (l ++ (13 ∷ 10 ∷ (t ++ (13 ∷ 10 ∷ []))))) z (Done (length d) (length t))) (append-nil d)
     (then (goes-chunks cs) (goes-last (length d) h y))
 
 -- ## Every live state has a completion
@@ -238,10 +242,17 @@ pub record Finish (s : State) : Type 0 where
   pub rest : List ℕ
   pub data′ : List ℕ
   pub total : ℕ
-  pub goes : Goes s rest data′ (Done total)
+  pub trailer : ℕ
+  pub goes : Goes s rest data′ (Done total trailer)
 
 before : {s s′ : State} {xs d : List ℕ} → Goes s xs d s′ → Finish s′ → Finish s
-before {xs = xs} {d = d} g f = record { rest = xs ++ f .rest; data′ = d ++ f .data′; total = f .total; goes = then g (f .goes) }
+before {xs = xs} {d = d} g f = record {
+  rest = xs ++ f .rest;
+  data′ = d ++ f .data′;
+  total = f .total;
+  trailer = f .trailer;
+  goes = then g (f .goes);
+}
 
 finish-trail : (p : TrailerAt) (k t : ℕ) → trailer .alive p ≡ true → Finish (Trail p k t)
 finish-trail p k t h =
@@ -250,6 +261,7 @@ finish-trail p k t h =
       rest = 13 ∷ 10 ∷ [];
       data′ = [];
       total = t;
+      trailer = k + length (f .0);
       goes = goes-close (at trailer p (f .0)) (k + length (f .0)) t (f .1);
     })
 
@@ -290,8 +302,8 @@ finish (Data m t) h = finish-data m t
 finish (DataCr t) h = finish-cr t
 finish (DataLf t) h = before (goes-lf t) (finish-first 0 t)
 finish (Trail p k t) h = finish-trail p k t h
-finish (EndLf t) h = record { rest = 10 ∷ []; data′ = []; total = t; goes = goes-end t }
-finish (Done t) h = record { rest = []; data′ = []; total = t; goes = stay (Done t) }
+finish (EndLf t n) h = record { rest = 10 ∷ []; data′ = []; total = t; trailer = n; goes = goes-end t n }
+finish (Done t n) h = record { rest = []; data′ = []; total = t; trailer = n; goes = stay (Done t n) }
 finish Dead h = false-true h
 
 -- ## A dead state stays dead, and nothing follows a body
@@ -309,9 +321,9 @@ dead (DataCr t) b h = false-true (sym h)
 dead (DataLf t) b h = false-true (sym h)
 dead (Trail p k t) b h = go (trailer .ends p) refl (eqb b 13)
   where
-    go : (x : Bool) → trailer .ends p ≡ x → (y : Bool) → live (cond (x && y) (EndLf t) (Trail (trailer .next p b) (suc k) t)) ≡ false
+    go : (x : Bool) → trailer .ends p ≡ x → (y : Bool) → live (cond (x && y) (EndLf t k) (Trail (trailer .next p b) (suc k) t)) ≡ false
     go true e y = false-true (sym h ∙ trailer-read .ends-alive p e)
     go false e y = trailer-read .dead p b h
-dead (EndLf t) b h = false-true (sym h)
-dead (Done t) b h = false-true (sym h)
+dead (EndLf t n) b h = false-true (sym h)
+dead (Done t n) b h = false-true (sym h)
 dead Dead b h = refl

@@ -54,6 +54,6 @@ module _ (test : TrailerAt → ℕ → Bool) where
             (G.inTrailer (f .0) (h .are) (h .is) (f .1));
         passed = ap₂ test (h .at) (sym (h .count)) ∙ e;
       }
-  trailer-stands (EndLf t) p d e a h = false-true e
-  trailer-stands (Done t) p d e a h = false-true e
+  trailer-stands (EndLf t n) p d e a h = false-true e
+  trailer-stands (Done t n) p d e a h = false-true e
   trailer-stands Dead p d e a h = false-true e

@@ -1,10 +1,10 @@
 -- The laws of the machine for chunked bodies, in every room and under every set of limits: it ends at the grammar's bodies, and its limits
 -- are the grammar's.
-use mathlib.Core.Path.{_≡_, refl, sym, _∙_, ap, ap₂, subst}
+use mathlib.Core.Path.{_≡_, refl, sym, _∙_, ap, ap₂, subst, subst₂}
 use mathlib.Core.Bool.{Bool, true, false}
 use mathlib.Core.List.{List, [], _∷_, _++_}
 use mathlib.Core.Option.{Option, none, some}
-use Prim.Native.Nat.{ℕ, _+_, _≤_}
+use Prim.Native.Nat.{ℕ, _+_, _-_, _≤_}
 use native.Mathlib.Omega.{arith}
 use lib.Dec.{eqb}
 use lib.ListN.{length, take}
@@ -15,7 +15,7 @@ use Rattle.framing.specs.declared.State.{State}
 use Rattle.framing.specs.declared.State.the-variants.{Line, LineFeed, Data, DataCr, DataLf, Trail, EndLf, Done, Dead}
 use Rattle.framing.specs.Demand.{Among}
 use Rattle.framing.specs.Grammar as G
-use Rattle.framing.specs.Grammar.{Body, Tells, Broken, chunked}
+use Rattle.framing.specs.Grammar.{crlf, Body, HasTrailer, Tells, Broken, chunked}
 use Rattle.framing.specs.helpers.Machine.{End, step, emit, live, lineLive, done, tell, longLine, longTrailer, pastRoom, noRoom}
 use Rattle.framing.specs.helpers.Machine.{tests, testOf, broke, start, machine}
 use Rattle.framing.specs.helpers.Scan.{judgeBy, first, run, out, Quiet}
@@ -23,16 +23,18 @@ use Rattle.framing.proofs.Cases.{false-true, none-some, by-cond, to-con
 use Rattle.framing.proofs.Scanning.{run-keeps}
 use Rattle.framing.proofs.Ranks.{Each, first-none, none-first}
 use Rattle.framing.proofs.Machines.{Laws, judge, judged-none}
-use Rattle.framing.proofs.Goes.{goes-body, Finish, finish, dead}
+use Rattle.framing.proofs.Goes.{Goes, goes-parts, Finish, finish, dead}
+use Rattle.framing.proofs.Trailers.{trailer-start, ends-trailed, same-trailer}
 use Rattle.framing.proofs.Past.{Ended, Past, past}
 use Rattle.framing.proofs.Rooms.{Fits, ShortLine, ShortTrailer, keep-line, keep-trailer}
 use Rattle.framing.proofs.Finds.{Finds, finds, Tied}
 use Rattle.framing.proofs.LongLine.{long-line-found, long-line-tied}
 use Rattle.framing.proofs.LongTrailer.{long-trailer-found, long-trailer-tied}
+use Rattle.framing.proofs.ForbiddenField.{forbidden-field-found, forbidden-field-tied}
 use Rattle.framing.proofs.NoRoom.{no-room-found, no-room-broken, fits}
 
 -- ## Ends
-done-is : (s : State) (e : End) → done s ≡ some e → s ≡ Done (e .length)
+done-is : (s : State) (e : End) → done s ≡ some e → s ≡ Done (e .length) (e .trailer)
 unfolding done
 done-is (Line p k u) e h = none-some h
 done-is (LineFeed v u) e h = none-some h
@@ -40,13 +42,13 @@ done-is (Data m u) e h = none-some h
 done-is (DataCr u) e h = none-some h
 done-is (DataLf u) e h = none-some h
 done-is (Trail p k u) e h = none-some h
-done-is (EndLf u) e h = none-some h
-done-is (Done u) e h = let z : record { length = u } ≡ e = cc in ap (λ (x : End). Done (x .length)) z
+done-is (EndLf u n) e h = none-some h
+done-is (Done u n) e h = let z : record { length = u; trailer = n } ≡ e = cc in ap (λ (x : End). Done (x .length) (x .trailer)) z
 done-is Dead e h = none-some h
 
-done-done : (t : ℕ) → done (Done t) ≡ some (record { length = t })
+done-done : (t n : ℕ) → done (Done t n) ≡ some (record { length = t; trailer = n })
 unfolding done
-done-done t = refl
+done-done t n = refl
 
 last : (s : State) (e : End) (b : ℕ) → done s ≡ some e → live (step s b) ≡ false
 unfolding step live
@@ -58,22 +60,45 @@ alive s e h = ap live (done-is s e h)
 
 completes : (s : State) → live s ≡ true → (u : List ℕ) × (e : End) × (done (run step s u) ≡ some e)
 completes s h =
-    let f : Finish s = finish s h in (f .rest, record { length = f .total }, ap done (f .goes .ends) ∙ done-done (f .total))
+    let f : Finish s = finish s h in
+    (f .rest, record { length = f .total; trailer = f .trailer }, ap done (f .goes .ends) ∙ done-done (f .total) (f .trailer))
 
 body-to : (p : List ℕ) (e : End) → done (run step start p) ≡ some e
     → Body p (out step emit start p) × Tells (tell (length p) e) p (out step emit start p)
 body-to p e h =
-    let w : Ended (e .length) p (out step emit start p)
-    = subst (λ (s : State). Past s p (out step emit start p)) (done-is (run step start p) e h) (past p) in
-    (w .is, record { taken = refl; joined = w .total })
+    let d : List ℕ = out step emit start p in
+    let w : Ended (e .length) (e .trailer) p d = subst (λ (s : State). Past s p d) (done-is (run step start p) e h) (past p) in
+    let n : length (w .chunks ++ (w .line ++ crlf)) ≡ length p - (e .trailer + 2)
+    = sym (trailer-start (w .chunks) (w .line) (w .trailer))
+    ∙ ap₂ (λ (x : List ℕ) (k : ℕ). length x - (k + 2)) (sym (w .split)) (sym (w .count)) in (
+      subst (λ (z : List ℕ). Body z d) (sym (w .split)) (G.body (w .are) (w .is) (w .trails)),
+      record {
+        taken = refl;
+        joined = w .total;
+        trailer = w .trailer;
+        stands = subst₂ (λ (z : List ℕ) (k : ℕ). HasTrailer z k (w .trailer)) (sym (w .split)) n (G.hasTrailer (w .are) (w .is) (w .trails));
+        trailed = w .count;
+      },
+    )
 
-told : (p d : List ℕ) (w : Whole) → Tells w p d → w ≡ tell (length p) (record { length = length d })
-told p d w t = ap₂ (λ (n k : ℕ). tell n (record { length = k })) (t .taken) (t .joined)
+body-ends : {p d : List ℕ} → Body p d → (n : ℕ) × Goes start p d (Done (length d) n)
+body-ends (G.body {t = t} cs h y) = (length t, goes-parts cs h y)
+
+told : (p d : List ℕ) (n : ℕ) → run step start p ≡ Done (length d) n → (w : Whole) → Tells w p d
+    → w ≡ tell (length p) (record { length = length d; trailer = n })
+told p d n ends w t =
+    let e = ends-trailed (t .stands) in
+    let same : length (t .trailer) ≡ n = same-trailer (sym (e .1) ∙ ends) in
+    ap₂ (λ (a b : ℕ). record { taken = a; length = b; «trailer_start» = w .«trailer_start»; «trailer_length» = w .«trailer_length» })
+    (t .taken) (t .joined)
+    ∙ ap₂ (λ (a b : ℕ). record { taken = length p; length = length d; «trailer_start» = a; «trailer_length» = b })
+    (e .2 ∙ ap (λ (k : ℕ). length p - (k + 2)) same) (t .trailed ∙ same)
 
 body-from : (p d : List ℕ) → Body p d → (e : End) × (done (run step start p) ≡ some e) × (out step emit start p ≡ d)
     × ((w : Whole) → Tells w p d → w ≡ tell (length p) e)
 body-from p d b =
-    (record { length = length d }, ap done (goes-body b .ends) ∙ done-done (length d), goes-body b .gives, λ w t. told p d w t)
+    let g : (n : ℕ) × Goes start p d (Done (length d) n) = body-ends b in
+    (record { length = length d; trailer = g .0 }, ap done (g .1 .ends) ∙ done-done (length d) (g .0), g .1 .gives, told p d (g .0) (g .1 .ends))
 
 -- ## Limits
 module _ (room : ℕ) where
@@ -81,6 +106,7 @@ module _ (room : ℕ) where
   found n (G.longLine i e) = long-line-found i e
   found n (G.longTrailer i e) = long-trailer-found i e
   found n (G.noRoom i fits passes) = no-room-found room i passes
+  found n (G.forbiddenField i e) = forbidden-field-found i e
 
   abbrev Holds : Bool → Type 0
   Holds x = x ≡ true
@@ -90,7 +116,7 @@ module _ (room : ℕ) where
   Unpassed n p = (i : ℕ) → i ≤ length p → broke room n (run step start (take i p)) ≡ false
 
   ties : Each (Tied room) tests
-  ties = (long-line-tied room, (long-trailer-tied room, tt))
+  ties = (long-line-tied room, (long-trailer-tied room, (forbidden-field-tied room, tt)))
 
   tied-broken : (ts : List (ℕ × (State → Bool))) → Each (Tied room) ts → (n : ℕ) (s : State) (p d : List ℕ) → testOf ts n s ≡ true → live s ≡ true
       → Past s p d → Broken room n p

@@ -44,8 +44,8 @@ long-line-broken room (Data m t) p d e a h = false-true e
 long-line-broken room (DataCr t) p d e a h = false-true e
 long-line-broken room (DataLf t) p d e a h = false-true e
 long-line-broken room (Trail x k t) p d e a h = false-true e
-long-line-broken room (EndLf t) p d e a h = false-true e
-long-line-broken room (Done t) p d e a h = false-true e
+long-line-broken room (EndLf t n) p d e a h = false-true e
+long-line-broken room (Done t n) p d e a h = false-true e
 long-line-broken room Dead p d e a h = false-true e
 
 pub long-line-tied : (room : ℕ) → Tied room (LINE_TOO_LONG, longLine)

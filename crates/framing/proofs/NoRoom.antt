@@ -57,8 +57,8 @@ sized (Data m t) = false
 sized (DataCr t) = false
 sized (DataLf t) = false
 sized (Trail p k t) = false
-sized (EndLf t) = false
-sized (Done t) = false
+sized (EndLf t n) = false
+sized (Done t n) = false
 sized Dead = false
 
 -- a step into a size comes from a line
@@ -88,10 +88,10 @@ step-size s b w k t = go s
     go (Data (suc m) u) = by-cond Is (octet? b) (λ _. no (Data m u) refl) (λ _. no Dead refl)
     go (DataCr u) = by-cond Is (eqb b 13) (λ _. no (DataLf u) refl) (λ _. no Dead refl)
     go (DataLf u) = by-cond Is (eqb b 10) (λ _. no (Line First 0 u) refl) (λ _. no Dead refl)
-    go (Trail p j u) = by-cond Is (trailer .ends p && eqb b 13) (λ _. no (EndLf u) refl)
+    go (Trail p j u) = by-cond Is (trailer .ends p && eqb b 13) (λ _. no (EndLf u j) refl)
         (λ _. no (Trail (trailer .next p b) (suc j) u) refl)
-    go (EndLf u) = by-cond Is (eqb b 10) (λ _. no (Done u) refl) (λ _. no Dead refl)
-    go (Done u) = no Dead refl
+    go (EndLf u n) = by-cond Is (eqb b 10) (λ _. no (Done u n) refl) (λ _. no Dead refl)
+    go (Done u n) = no Dead refl
     go Dead = no Dead refl
 
 module _ (room : ℕ) where
@@ -118,8 +118,8 @@ module _ (room : ℕ) where
   at-size (DataCr t) e = false-true e
   at-size (DataLf t) e = false-true e
   at-size (Trail x k t) e = false-true e
-  at-size (EndLf t) e = false-true e
-  at-size (Done t) e = false-true e
+  at-size (EndLf t n) e = false-true e
+  at-size (Done t n) e = false-true e
   at-size Dead e = false-true e
 
   -- a digit, from the state before it

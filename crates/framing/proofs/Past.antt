@@ -14,7 +14,7 @@ use Rattle.framing.specs.declared.State.{State}
 use Rattle.framing.specs.declared.State.the-variants.{Line, LineFeed, Data, DataCr, DataLf, Trail, EndLf, Done, Dead}
 use Rattle.framing.specs.Grammar as G
 use Rattle.octets.specs.Bytes.{octet?}
-use Rattle.framing.specs.Grammar.{Many, Chunk, Chunks, Body}
+use Rattle.framing.specs.Grammar.{Many, Trailer, Chunk, Chunks}
 use Rattle.framing.specs.helpers.Machine.{lineStep, lineEnds, TrailerAt, trailer, leaveLine, enterChunk, step, emit, start}
 use Rattle.framing.specs.helpers.Scan.{run, out}
 use Rattle.framing.proofs.Scanning.{run-append}
@@ -79,15 +79,22 @@ pub record InTrail (p : TrailerAt) (k : ℕ) (z : List ℕ) (t : ℕ) (pre done 
   pub total : t ≡ length done
 
 -- and the trailer may end there
-pub record TrailEnd (z : List ℕ) (t : ℕ) (pre done : List ℕ) : Type 0 where
+pub record TrailEnd (z : List ℕ) (t n : ℕ) (pre done : List ℕ) : Type 0 where
   pub position : TrailerAt
-  pub length : ℕ
-  pub inside : InTrail position length z t pre done
+  pub inside : InTrail position n z t pre done
   pub ends : trailer .ends position ≡ true
 
-pub record Ended (t : ℕ) (pre done : List ℕ) : Type 0 where
-  pub is : Body pre done
+-- a body, and its trailer
+pub record Ended (t n : ℕ) (pre done : List ℕ) : Type 0 where
+  pub chunks : List ℕ
+  pub line : List ℕ
+  pub trailer : List ℕ
+  pub are : Chunks chunks done
+  pub is : G.Line line 0
+  pub trails : Trailer trailer
+  pub split : pre ≡ chunks ++ (line ++ (13 ∷ 10 ∷ (trailer ++ (13 ∷ 10 ∷ []))))
   pub total : t ≡ length done
+  pub count : n ≡ length trailer
 
 abbrev pub Past : State → List ℕ → List ℕ → Type 0
 Past (Line p k t) pre d = InLine p k t pre d
@@ -96,8 +103,8 @@ Past (Data m t) pre d = DataLeft m t pre d
 Past (DataCr t) pre d = DataEnd [] t pre d
 Past (DataLf t) pre d = DataEnd (13 ∷ []) t pre d
 Past (Trail p k t) pre d = InTrail p k [] t pre d
-Past (EndLf t) pre d = TrailEnd (13 ∷ []) t pre d
-Past (Done t) pre d = Ended t pre d
+Past (EndLf t n) pre d = TrailEnd (13 ∷ []) t n pre d
+Past (Done t n) pre d = Ended t n pre d
 Past Dead pre d = Unit {0}
 
 pub many-append : {q : ℕ → Bool} {xs ys : List ℕ} → Many q xs → Many q ys → Many q (xs ++ ys)
@@ -222,10 +229,9 @@ module _ (pre d : List ℕ) where
   }
 
   -- the closing CR: the trailer is whole
-  close-on : (p : TrailerAt) (k t : ℕ) → trailer .ends p ≡ true → InTrail p k [] t pre d → TrailEnd (13 ∷ []) t (pre ++ (13 ∷ [])) d
+  close-on : (p : TrailerAt) (k t : ℕ) → trailer .ends p ≡ true → InTrail p k [] t pre d → TrailEnd (13 ∷ []) t k (pre ++ (13 ∷ [])) d
   close-on p k t e h = record {
     position = p;
-    length = k;
     inside = record {
       chunks = h .chunks;
       line = h .line;
@@ -240,12 +246,17 @@ module _ (pre d : List ℕ) where
     ends = e;
   }
 
-  end-on : (t : ℕ) → TrailEnd (13 ∷ []) t pre d → Ended t (pre ++ (10 ∷ [])) d
-  end-on t e = let h : InTrail (e .position) (e .length) (13 ∷ []) t pre d = e .inside in record {
-    is = subst (λ (z : List ℕ). Body z d)
-        (sym (ap (λ (z : List ℕ). z ++ (10 ∷ [])) (h .split) ∙ simp (append-assoc, append-nil)))
-        (G.body (h .are) (h .is) (trailer-read .complete (h .part) (ap (trailer .ends) (h .at) ∙ e .ends)));
+  end-on : (t n : ℕ) → TrailEnd (13 ∷ []) t n pre d → Ended t n (pre ++ (10 ∷ [])) d
+  end-on t n e = let h : InTrail (e .position) n (13 ∷ []) t pre d = e .inside in record {
+    chunks = h .chunks;
+    line = h .line;
+    trailer = h .part;
+    are = h .are;
+    is = h .is;
+    trails = trailer-read .complete (h .part) (ap (trailer .ends) (h .at) ∙ e .ends);
+    split = ap (λ (z : List ℕ). z ++ (10 ∷ [])) (h .split) ∙ simp append-assoc;
     total = h .total;
+    count = h .count;
   }
 
 pub on : (s : State) (b : ℕ) (pre d : List ℕ) → Past s pre d → Past (step s b) (pre ++ (b ∷ [])) (d ++ emit s b)
@@ -271,13 +282,13 @@ on (DataLf t) b pre d h = rw append-nil (to-cond (λ (s : State). Past s (pre ++
 on (Trail p k t) b pre d h = rw append-nil (go (trailer .ends p) (eqb b 13) refl refl)
   where
     go : (x y : Bool) → trailer .ends p ≡ x → eqb b 13 ≡ y
-        → Past (cond (x && y) (EndLf t) (Trail (trailer .next p b) (suc k) t)) (pre ++ (b ∷ [])) d
+        → Past (cond (x && y) (EndLf t k) (Trail (trailer .next p b) (suc k) t)) (pre ++ (b ∷ [])) d
     go true true e f = rw (eqb-true b 13 f) (close-on pre d p k t e h)
     go true false e f = trail-on pre d p k t b h
     go false y e f = trail-on pre d p k t b h
-on (EndLf t) b pre d h = rw append-nil (to-cond (λ (s : State). Past s (pre ++ (b ∷ [])) d) (eqb b 10)
-    (λ e. rw (eqb-true b 10 e) (end-on pre d t h)) (λ _. tt))
-on (Done t) b pre d h = tt
+on (EndLf t n) b pre d h = rw append-nil (to-cond (λ (s : State). Past s (pre ++ (b ∷ [])) d) (eqb b 10)
+    (λ e. rw (eqb-true b 10 e) (end-on pre d t n h)) (λ _. tt))
+on (Done t n) b pre d h = tt
 on Dead b pre d h = tt
 
 past-from : (xs : List ℕ) (s : State) (pre d : List ℕ) → Past s pre d → Past (run step s xs) (pre ++ xs) (d ++ out step emit s xs)

@@ -27,8 +27,8 @@ Fits room (Data m t) = t ≤ room
 Fits room (DataCr t) = t ≤ room
 Fits room (DataLf t) = t ≤ room
 Fits room (Trail p k t) = t ≤ room
-Fits room (EndLf t) = t ≤ room
-Fits room (Done t) = t ≤ room
+Fits room (EndLf t n) = t ≤ room
+Fits room (Done t n) = t ≤ room
 Fits room Dead = Unit {0}
 
 -- so are the bytes of a line
@@ -39,8 +39,8 @@ ShortLine (Data m t) = Unit {0}
 ShortLine (DataCr t) = Unit {0}
 ShortLine (DataLf t) = Unit {0}
 ShortLine (Trail p k t) = Unit {0}
-ShortLine (EndLf t) = Unit {0}
-ShortLine (Done t) = Unit {0}
+ShortLine (EndLf t n) = Unit {0}
+ShortLine (Done t n) = Unit {0}
 ShortLine Dead = Unit {0}
 
 -- and of the trailer
@@ -51,8 +51,8 @@ ShortTrailer (Data m t) = Unit {0}
 ShortTrailer (DataCr t) = Unit {0}
 ShortTrailer (DataLf t) = Unit {0}
 ShortTrailer (Trail p k t) = k ≤ TRAILER_LIMIT
-ShortTrailer (EndLf t) = Unit {0}
-ShortTrailer (Done t) = Unit {0}
+ShortTrailer (EndLf t n) = n ≤ TRAILER_LIMIT
+ShortTrailer (Done t n) = n ≤ TRAILER_LIMIT
 ShortTrailer Dead = Unit {0}
 
 pub ends-size : (p : LinePos) (v : ℕ) → lineEnds p ≡ some v → sizeOf p ≡ v
@@ -106,8 +106,8 @@ module _ (room : ℕ) where
   keep-fits (DataCr t) b h = to-cond Kept (eqb b 13) (λ _ _. h) (λ _ _. tt)
   keep-fits (DataLf t) b h = to-cond Kept (eqb b 10) (λ _ _. omega arith) (λ _ _. tt)
   keep-fits (Trail p k t) b h = to-cond Kept (trailer .ends p && eqb b 13) (λ _ _. h) (λ _ _. h)
-  keep-fits (EndLf t) b h = to-cond Kept (eqb b 10) (λ _ _. h) (λ _ _. tt)
-  keep-fits (Done t) b h = λ _. tt
+  keep-fits (EndLf t n) b h = to-cond Kept (eqb b 10) (λ _ _. h) (λ _ _. tt)
+  keep-fits (Done t n) b h = λ _. tt
   keep-fits Dead b h = λ _. tt
 
 -- ## Lengths
@@ -139,8 +139,8 @@ keep-line (Data (suc m) t) b h = to-cond KeptLine (octet? b) (λ _ _. tt) (λ _ 
 keep-line (DataCr t) b h = to-cond KeptLine (eqb b 13) (λ _ _. tt) (λ _ _. tt)
 keep-line (DataLf t) b h = to-cond KeptLine (eqb b 10) (λ _ _. omega arith) (λ _ _. tt)
 keep-line (Trail p k t) b h = to-cond KeptLine (trailer .ends p && eqb b 13) (λ _ _. tt) (λ _ _. tt)
-keep-line (EndLf t) b h = to-cond KeptLine (eqb b 10) (λ _ _. tt) (λ _ _. tt)
-keep-line (Done t) b h = λ _. tt
+keep-line (EndLf t n) b h = to-cond KeptLine (eqb b 10) (λ _ _. tt) (λ _ _. tt)
+keep-line (Done t n) b h = λ _. tt
 keep-line Dead b h = λ _. tt
 
 abbrev KeptTrailer : State → Type 0
@@ -165,9 +165,9 @@ keep-trailer (Data (suc m) t) b h = to-cond KeptTrailer (octet? b) (λ _ _. tt) 
 keep-trailer (DataCr t) b h = to-cond KeptTrailer (eqb b 13) (λ _ _. tt) (λ _ _. tt)
 keep-trailer (DataLf t) b h = to-cond KeptTrailer (eqb b 10) (λ _ _. tt) (λ _ _. tt)
 keep-trailer (Trail p k t) b h =
-    to-cond KeptTrailer (trailer .ends p && eqb b 13) (λ _ _. tt) (λ _ e. still-short k TRAILER_LIMIT h e)
-keep-trailer (EndLf t) b h = to-cond KeptTrailer (eqb b 10) (λ _ _. tt) (λ _ _. tt)
-keep-trailer (Done t) b h = λ _. tt
+    to-cond KeptTrailer (trailer .ends p && eqb b 13) (λ _ _. h) (λ _ e. still-short k TRAILER_LIMIT h e)
+keep-trailer (EndLf t n) b h = to-cond KeptTrailer (eqb b 10) (λ _ _. h) (λ _ _. tt)
+keep-trailer (Done t n) b h = λ _. tt
 keep-trailer Dead b h = λ _. tt
 
 -- ## A larger room
@@ -193,6 +193,6 @@ lifts r q (Data m t) h e = e
 lifts r q (DataCr t) h e = e
 lifts r q (DataLf t) h e = e
 lifts r q (Trail p k t) h e = e
-lifts r q (EndLf t) h e = e
-lifts r q (Done t) h e = e
+lifts r q (EndLf t n) h e = e
+lifts r q (Done t n) h e = e
 lifts r q Dead h e = e

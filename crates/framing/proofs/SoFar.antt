@@ -63,8 +63,8 @@ trailer-so-far : {c d l t : List ℕ} (y u : List ℕ) → Chunks c d → G.Line
 trailer-so-far {l = l} y u cs h k e =
     G.inLast (l ++ (crlf ++ y)) u cs h k (append-assoc l (crlf ++ y) u ∙ ap (λ (z : List ℕ). l ++ (crlf ++ z)) e)
 
-body-so-far : {p d : List ℕ} → Body p d → SoFar p d
-body-so-far (G.body {l = l} {t = t} cs h y) =
+parts-so-far : {c d l t : List ℕ} → Chunks c d → G.Line l 0 → Trailer t → SoFar (c ++ (l ++ (crlf ++ (t ++ crlf)))) d
+parts-so-far {l = l} {t = t} cs h y =
     G.inLast (l ++ (crlf ++ (t ++ crlf))) [] cs h y (append-nil (l ++ (crlf ++ (t ++ crlf))))
 
 -- the same of what stands behind a state in data
@@ -96,12 +96,12 @@ behind (Trail x k t) p d a h =
     let f : (u : List ℕ) × Trailer (h .part ++ u) = alive-begun trailer trailer-read (h .part) (ap (trailer .alive) (h .at) ∙ a) in
     subst (λ (z : List ℕ). SoFar z d) (sym (h .split))
     (trailer-so-far (h .part ++ []) (f .0 ++ crlf) (h .are) (h .is) (f .1) (simp (append-assoc, append-nil)))
-behind (EndLf t) p d a h =
+behind (EndLf t n) p d a h =
     let i = h .inside in
     subst (λ (z : List ℕ). SoFar z d) (sym (i .split))
     (trailer-so-far (i .part ++ (13 ∷ [])) (10 ∷ []) (i .are) (i .is)
     (trailer-read .complete (i .part) (ap (trailer .ends) (i .at) ∙ h .ends)) (append-assoc (i .part) (13 ∷ []) (10 ∷ [])))
-behind (Done t) p d a h = body-so-far (h .is)
+behind (Done t n) p d a h = subst (λ (z : List ℕ). SoFar z d) (sym (h .split)) (parts-so-far (h .are) (h .is) (h .trails))
 behind Dead p d a h = false-true a
 
 -- what the machine gives on the way is the data so far

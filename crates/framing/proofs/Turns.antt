@@ -14,7 +14,7 @@ use Rattle.framing.specs.declared.LinePos.{LinePos}
 use Rattle.framing.specs.declared.LinePos.the-variants.{First, Size, Ext}
 use Rattle.framing.specs.declared.State.{State}
 use Rattle.framing.specs.declared.State.the-variants.{Line, LineFeed, Data, DataCr, DataLf, Trail, EndLf, Done, Dead}
-use Rattle.framing.specs.helpers.Machine.{extensions, lineStep, lineEnds, lineLive, sizeOf, TrailerAt, trailer}
+use Rattle.framing.specs.helpers.Machine.{extensions, lineStep, lineEnds, lineLive, sizeOf, TrailerAt, trailer, atForbidden}
 use Rattle.framing.specs.helpers.Machine.{leaveLine, enterChunk, step, live, done, pastRoom, machine, tell}
 use Rattle.framing.specs.helpers.Scan.{ended, refusal, verdictOf, over-by}
 use Rattle.framing.specs.Reading.{judge}
@@ -60,13 +60,13 @@ module _ (room : ℕ) where
   unfolding judge live done
   quiet-trailer t = refl
 
-  pub quiet-end : (t : ℕ) → judge room (EndLf t) ≡ none
+  pub quiet-end : (t n : ℕ) → judge room (EndLf t n) ≡ none
   unfolding judge live done
-  quiet-end t = refl
+  quiet-end t n = refl
 
-  pub ended-done : (t : ℕ) → judge room (Done t) ≡ some (ended (record { length = t }))
+  pub ended-done : (t n : ℕ) → judge room (Done t n) ≡ some (ended (record { length = t; trailer = n }))
   unfolding judge live done
-  ended-done t = refl
+  ended-done t n = refl
 
   module _ (w k t : ℕ) where
     pub size-five : k ≡ suc LINE_LIMIT → judge room (Line (Size w) k t) ≡ some (refusal 5)
@@ -121,9 +121,13 @@ module _ (room : ℕ) where
     unfolding live done
     trail-six h n = judged (Trail p k t) (some 6) h (rw (eq-eqb k (suc TRAILER_LIMIT) n) refl)
 
-    pub trail-quiet : trailer .alive p ≡ true → (k ≡ suc TRAILER_LIMIT → ⊥) → judge room (Trail p k t) ≡ none
+    pub trail-fifteen : trailer .alive p ≡ true → (k ≡ suc TRAILER_LIMIT → ⊥) → atForbidden p ≡ true → judge room (Trail p k t) ≡ some (refusal 15)
     unfolding live done
-    trail-quiet h n = judged (Trail p k t) none h (rw (ne-eqb k (suc TRAILER_LIMIT) n) refl)
+    trail-fifteen h n e = judged (Trail p k t) (some 15) h (rw (ne-eqb k (suc TRAILER_LIMIT) n, e) refl)
+
+    pub trail-quiet : trailer .alive p ≡ true → (k ≡ suc TRAILER_LIMIT → ⊥) → atForbidden p ≡ false → judge room (Trail p k t) ≡ none
+    unfolding live done
+    trail-quiet h n e = judged (Trail p k t) none h (rw (ne-eqb k (suc TRAILER_LIMIT) n, e) refl)
 
 -- ## Steps
 module _ (b : ℕ) where
@@ -193,21 +197,21 @@ module _ (b : ℕ) where
   no-data-lf t h = ap (λ (z : Bool). cond z (Line First 0 t) Dead) (ne-eqb b 10 h)
 
   -- in the trailer
-  pub trail-close : (p : TrailerAt) (k t : ℕ) → (trailer .ends p && eqb b 13) ≡ true → step (Trail p k t) b ≡ EndLf t
+  pub trail-close : (p : TrailerAt) (k t : ℕ) → (trailer .ends p && eqb b 13) ≡ true → step (Trail p k t) b ≡ EndLf t k
   unfolding step
-  trail-close p k t h = ap (λ (z : Bool). cond z (EndLf t) (Trail (trailer .next p b) (suc k) t)) h
+  trail-close p k t h = ap (λ (z : Bool). cond z (EndLf t k) (Trail (trailer .next p b) (suc k) t)) h
 
   pub trail-step : (p : TrailerAt) (k t : ℕ) → (trailer .ends p && eqb b 13) ≡ false → step (Trail p k t) b ≡ Trail (trailer .next p b) (suc k) t
   unfolding step
-  trail-step p k t h = ap (λ (z : Bool). cond z (EndLf t) (Trail (trailer .next p b) (suc k) t)) h
+  trail-step p k t h = ap (λ (z : Bool). cond z (EndLf t k) (Trail (trailer .next p b) (suc k) t)) h
 
-  pub end-lf : (t : ℕ) → b ≡ 10 → step (EndLf t) b ≡ Done t
+  pub end-lf : (t n : ℕ) → b ≡ 10 → step (EndLf t n) b ≡ Done t n
   unfolding step
-  end-lf t h = ap (λ (z : Bool). cond z (Done t) Dead) (eq-eqb b 10 h)
+  end-lf t n h = ap (λ (z : Bool). cond z (Done t n) Dead) (eq-eqb b 10 h)
 
-  pub end-other : (t : ℕ) → (b ≡ 10 → ⊥) → step (EndLf t) b ≡ Dead
+  pub end-other : (t n : ℕ) → (b ≡ 10 → ⊥) → step (EndLf t n) b ≡ Dead
   unfolding step
-  end-other t h = ap (λ (z : Bool). cond z (Done t) Dead) (ne-eqb b 10 h)
+  end-other t n h = ap (λ (z : Bool). cond z (Done t n) Dead) (ne-eqb b 10 h)
 
 pub leave-some : (v t : ℕ) (o : Option ℕ) → o ≡ some v → leaveLine o t ≡ LineFeed v t
 unfolding leaveLine

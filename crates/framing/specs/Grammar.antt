@@ -7,9 +7,10 @@ use Prim.Native.Nat.{ℕ, suc, _+_, _-_, _*_, _<_, _≤_}
 use Prim.Native.Char.{code}
 use lib.ListN.{length, take}
 use Rattle.grammar.specs.Text.{bytes}
-use Rattle.grammar.specs.Refusals.{LINE_TOO_LONG, TRAILER_TOO_LONG, BODY_TOO_LARGE}
+use Rattle.grammar.specs.Refusals.{LINE_TOO_LONG, TRAILER_TOO_LONG, BODY_TOO_LARGE, FORBIDDEN_FIELD}
 use Rattle.grammar.specs.Beginnings.{Matches}
 use Rattle.octets.specs.Bytes.{hex?, hex-value, token?, content?, octet?}
+use Rattle.octets.specs.Case.{alike}
 use Rattle.octets.specs.Quoted.{quoted-text}
 use Rattle.framing.specs.declared.Whole.{Whole}
 use Rattle.framing.specs.Demand.{Format}
@@ -83,10 +84,19 @@ pub data Chunks : List ℕ → List ℕ → Type 0 where
 pub data Body : List ℕ → List ℕ → Type 0 where
   body : {c d l t : List ℕ} → Chunks c d → Line l 0 → Trailer t → Body (c ++ (l ++ (crlf ++ (t ++ crlf)))) d
 
--- "bytes taken is the length of the beginning that is the body, body length that of its joined chunk data"
+-- p is a body whose trailer is t, "all bytes of trailer lines, CR and LF included, without the closing CRLF", behind its first n bytes
+pub data HasTrailer : List ℕ → ℕ → List ℕ → Type 0 where
+  hasTrailer : {c d l t : List ℕ} → Chunks c d → Line l 0 → Trailer t
+      → HasTrailer (c ++ (l ++ (crlf ++ (t ++ crlf)))) (length (c ++ (l ++ crlf))) t
+
+-- "bytes taken is the length of the beginning that is the body, body length that of its joined chunk data"; and "the trailer's start and
+-- length"
 pub record Tells (w : Whole) (f d : List ℕ) : Type 0 where
   pub taken : w .taken ≡ length f
   pub joined : w .length ≡ length d
+  pub trailer : List ℕ
+  pub stands : HasTrailer f (w .«trailer_start») trailer
+  pub trailed : w .«trailer_length» ≡ length trailer
 
 -- ## Where a byte stands
 -- "The bytes up to and with a byte decide which part of a body it stands in." In each, p is these bytes.
@@ -104,6 +114,11 @@ pub data AtDigit : List ℕ → ℕ → ℕ → ℕ → Type 0 where
 pub data InTrailer : List ℕ → List ℕ → Type 0 where
   inTrailer : {c d l t : List ℕ} (u : List ℕ) → Chunks c d → Line l 0 → Trailer (t ++ u) → InTrailer (c ++ (l ++ (crlf ++ t))) t
 
+-- p ends with the colon behind n, the name of a trailer line
+pub data AtColon : List ℕ → List ℕ → Type 0 where
+  atColon : {c d l t n : List ℕ} → Chunks c d → Line l 0 → Trailer t → Token n
+      → AtColon (c ++ (l ++ (crlf ++ (t ++ (n ++ bytes ":"))))) n
+
 -- ## The data so far
 -- p begins a body, and d is the chunk data that stands in p
 pub data SoFar : List ℕ → List ℕ → Type 0 where
@@ -120,6 +135,15 @@ LINE_LIMIT = 1024
 abbrev pub TRAILER_LIMIT : ℕ
 TRAILER_LIMIT = 8192
 
+-- "By RFC 2616 14.40 a trailer must not hold `Transfer-Encoding`, `Content-Length` or `Trailer`"
+abbrev pub forbidden : List (List ℕ)
+forbidden = bytes "Transfer-Encoding" ∷ bytes "Content-Length" ∷ bytes "Trailer" ∷ []
+
+-- n is one of these names, "letter case ignored"
+pub data Named (n : List ℕ) : List (List ℕ) → Type 0 where
+  first : {f : List ℕ} {fs : List (List ℕ)} → alike n f ≡ true → Named n (f ∷ fs)
+  later : {f : List ℕ} {fs : List (List ℕ)} → Named n fs → Named n (f ∷ fs)
+
 -- the last byte of these breaks the limit of that number, in that room
 pub data Broken (room : ℕ) : ℕ → List ℕ → Type 0 where
   -- row 5: "chunk line above 1,024 bytes", at "its byte 1,025"
@@ -128,10 +152,12 @@ pub data Broken (room : ℕ) : ℕ → List ℕ → Type 0 where
   longTrailer : {p t : List ℕ} → InTrailer p t → length t ≡ suc TRAILER_LIMIT → Broken room TRAILER_TOO_LONG p
   -- row 7: "the digit with which finished chunks plus the value read so far pass" the room
   noRoom : {p : List ℕ} {t v w : ℕ} → AtDigit p t v w → t + v ≤ room → room < t + w → Broken room BODY_TOO_LARGE p
+  -- row 15: "These names, letter case ignored, are new refusal 15 at the colon"
+  forbiddenField : {p n : List ℕ} → AtColon p n → Named n forbidden → Broken room FORBIDDEN_FIELD p
 
--- "at one byte: 1, 5, 6, 7"
+-- "at one byte: 1, 5, 6, 7", then 15
 abbrev pub limits : List ℕ
-limits = LINE_TOO_LONG ∷ TRAILER_TOO_LONG ∷ BODY_TOO_LARGE ∷ []
+limits = LINE_TOO_LONG ∷ TRAILER_TOO_LONG ∷ BODY_TOO_LARGE ∷ FORBIDDEN_FIELD ∷ []
 
 -- chunked bodies under a set of limits
 abbrev pub chunked : List ℕ → Format Whole

@@ -33,8 +33,11 @@ pub enum LinePos {
 pub enum TrailPos {
     // behind the line before, or where the trailer begins
     LineStart,
-    Name,
+    // in a name; `agreed` says which forbidden names agree with it so far, and how many bytes it has; 0 where none does
+    Name { agreed: u8 },
     Value,
+    // behind the colon of a forbidden name
+    Forbidden,
     // behind the CR of a line
     Lf,
     // no trailer goes on from here
@@ -42,7 +45,8 @@ pub enum TrailPos {
 }
 
 // Where a body stands. `length` counts the bytes so far of the line or the trailer, `size` is what the line gave, `left` the bytes of the
-// chunk behind the next one; `before` is the data of the chunks before the line, `total` that of all chunks, the one being read included.
+// chunk behind the next one; `before` is the data of the chunks before the line, `total` that of all chunks, the one being read included;
+// `trailer` is the length of the trailer.
 pub enum State {
     Line {
         position: LinePos,
@@ -70,15 +74,20 @@ pub enum State {
     },
     EndLf {
         total: usize,
+        trailer: usize,
     },
     Done {
         total: usize,
+        trailer: usize,
     },
     Dead,
 }
 
-// What is told of a body that is whole: the bytes that it takes, and the length of its data.
+// What is told of a body that is whole: the bytes that it takes, the length of its data, and where its trailer stands, which ends before
+// the closing CRLF; without a trailer, the place of the closing CRLF and 0.
 pub struct Whole {
     pub taken: usize,
     pub length: usize,
+    pub trailer_start: usize,
+    pub trailer_length: usize,
 }

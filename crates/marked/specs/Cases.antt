@@ -27,7 +27,7 @@ pub data Case : Type 0 where
   qvalue-is : (text : String) (thousandths : ℕ) → Case
   qvalue-refused : (text : String) (number place : ℕ) → Case
   urls-equal : (text other : String) → Case
-  body-whole : (room : ℕ) (text : String) (taken length : ℕ) → Case
+  body-whole : (room : ℕ) (text : String) (taken length start trailed : ℕ) → Case
   body-refused : (room : ℕ) (text : String) (number place : ℕ) → Case
 
 abbrev pub Holds : Case → Type 0
@@ -40,7 +40,8 @@ Holds (date-is t y m d h n s z) =
 Holds (qvalue-is t q) = header QvalueGrammar.rules (bytes t) ≡ value q
 Holds (qvalue-refused t n p) = header QvalueGrammar.rules (bytes t) ≡ Header.refused n p
 Holds (urls-equal t u) = compare same-page (header pages (bytes t)) (header pages (bytes u)) ≡ outcome true
-Holds (body-whole r t n k) = decode r (bytes t) ≡ whole (record { taken = n; length = k })
+Holds (body-whole r t n k i l) =
+    decode r (bytes t) ≡ whole (record { taken = n; length = k; «trailer_start» = i; «trailer_length» = l })
 Holds (body-refused r t n p) = decode r (bytes t) ≡ refused n p
 
 abbrev pub All : List Case → Type 0
@@ -59,6 +60,6 @@ table =
     ∷ qvalue-is "0." 0
     ∷ qvalue-refused "1.001" MALFORMED 4
     ∷ urls-equal "http://abc.com:80/~smith/home.html" "http://ABC.com:/%7esmith/home.html"
-    ∷ body-whole 0 "0\r\n\r\n" 5 0
+    ∷ body-whole 0 "0\r\n\r\n" 5 0 3 0
     ∷ body-refused 0 "1" BODY_TOO_LARGE 0
     ∷ []

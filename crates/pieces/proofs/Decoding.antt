@@ -5,7 +5,7 @@ use mathlib.Core.List.{List}
 use Prim.Native.Nat.{ℕ, _+_, _<_, _≤_}
 use native.Mathlib.Omega.{arith}
 use lib.ListN.{length, take}
-use Rattle.grammar.specs.Refusals.{LINE_TOO_LONG, TRAILER_TOO_LONG, BODY_TOO_LARGE, FRAMED_TOO_LONG}
+use Rattle.grammar.specs.Refusals.{LINE_TOO_LONG, TRAILER_TOO_LONG, BODY_TOO_LARGE, FORBIDDEN_FIELD, FRAMED_TOO_LONG}
 use Rattle.framing.specs.declared.Whole.{Whole}
 use Rattle.framing.specs.Answer.{whole, refused}
 use Rattle.framing.specs.Demand.{rank, Decodes}
@@ -42,11 +42,12 @@ demands =
     (counted-decodes FRAMED_TOO_LONG FRAMED_LIMIT machine tell (chunked limits) (λ r. laws limits r malformed-no-limit) same lifts
     unlisted not-malformed SoFar (out step emit start) so-far)
 
--- "last in the order at one byte"
+-- 14 comes last, 15 just before it
 pub order : (rank (in-pieces .limits) LINE_TOO_LONG < rank (in-pieces .limits) TRAILER_TOO_LONG)
     × (rank (in-pieces .limits) TRAILER_TOO_LONG < rank (in-pieces .limits) BODY_TOO_LARGE)
-    × (rank (in-pieces .limits) BODY_TOO_LARGE < rank (in-pieces .limits) FRAMED_TOO_LONG)
-order = (omega arith, omega arith, omega arith)
+    × (rank (in-pieces .limits) BODY_TOO_LARGE < rank (in-pieces .limits) FORBIDDEN_FIELD)
+    × (rank (in-pieces .limits) FORBIDDEN_FIELD < rank (in-pieces .limits) FRAMED_TOO_LONG)
+order = (omega arith, omega arith, omega arith, omega arith)
 
 module _ (r : ℕ) (s : List ℕ) where
   -- ## The reader of document 01

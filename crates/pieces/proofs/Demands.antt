@@ -8,13 +8,15 @@ use Prim.Native.Nat.{ℕ, suc, _+_, _-_, _/_, _<_, _≤_, min}
 use native.Mathlib.Omega.{arith}
 use lib.Dec.{eqb}
 use lib.ListN.{length, take, drop}
-use Rattle.grammar.specs.Refusals.{OUT_OF_RANGE, LINE_TOO_LONG, TRAILER_TOO_LONG, BODY_TOO_LARGE, FRAMED_TOO_LONG}
+use Rattle.grammar.specs.Refusals.{OUT_OF_RANGE, LINE_TOO_LONG, TRAILER_TOO_LONG, BODY_TOO_LARGE}
+use Rattle.grammar.specs.Refusals.{FORBIDDEN_FIELD, FRAMED_TOO_LONG}
 use Rattle.framing.specs.declared.Whole.{Whole}
 use Rattle.framing.specs.Answer.{whole, refused}
 use Rattle.framing.specs.Demand.{rank, Decodes}
-use Rattle.framing.specs.Grammar.{SoFar}
+use Rattle.framing.specs.Grammar.{Trailer, SoFar}
 use Rattle.framing.specs.Reading as Framing
 use Rattle.framing.proofs.SoFar as SoFar
+use Rattle.framing.proofs.Trailers as Trailers
 use Rattle.pieces.specs.Grammar.{in-pieces}
 use Rattle.pieces.specs.declared.Pieces.{Pieces}
 use Rattle.pieces.specs.Reading.{begun, over?, answer-of, filled, decode, decoded, valid}
@@ -30,10 +32,11 @@ use Rattle.pieces.proofs.Steps.{filled-on, begun-sound}
 pub demands : Decodes in-pieces SoFar decode decoded
 demands = Decoding.demands
 
--- "last in the order at one byte"
+-- 14 is "last in the order at one byte", 15 "just before" it
 pub order : (rank (in-pieces .limits) LINE_TOO_LONG < rank (in-pieces .limits) TRAILER_TOO_LONG)
     × (rank (in-pieces .limits) TRAILER_TOO_LONG < rank (in-pieces .limits) BODY_TOO_LARGE)
-    × (rank (in-pieces .limits) BODY_TOO_LARGE < rank (in-pieces .limits) FRAMED_TOO_LONG)
+    × (rank (in-pieces .limits) BODY_TOO_LARGE < rank (in-pieces .limits) FORBIDDEN_FIELD)
+    × (rank (in-pieces .limits) FORBIDDEN_FIELD < rank (in-pieces .limits) FRAMED_TOO_LONG)
 order = Decoding.order
 
 -- the data so far is determined
@@ -71,6 +74,15 @@ module _ (room : ℕ) (cs : List Call) where
   count w e =
       subst (λ (s : Pieces). w .taken ≡ s .taken) (sym (Sequences.reached room cs))
       (Decoding.one-count room (offers room cs) w (sym answer-so-far ∙ e))
+
+  -- where the trailer of a whole body is said to stand, there it stands among the bytes offered, all its lines; behind it the closing CRLF
+  pub trailer : (w : Whole) → answer-of (after (begun room) cs) ≡ whole w
+      → Trailer (take (w .«trailer_length») (drop (w .«trailer_start») (offers room cs)))
+      × (w .«trailer_start» + w .«trailer_length» + 2 ≡ w .taken)
+  trailer w e =
+      let b = demands .whole room (offers room cs) w .0 (sym answer-so-far ∙ e) .1 in
+      let t = Trailers.told-bytes (offers room cs) (b .count) (b .tells) in
+      (subst Trailer (sym (t .0)) (t .1), Trailers.told-closes (b .tells))
 
   -- "after "more" or a refusal in the body the output holds the data so far at its front .., the rest as lent": behind any calls, and where
   -- the body is whole too. Shuts out a reader that writes data of a refused call twice

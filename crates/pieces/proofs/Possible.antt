@@ -33,8 +33,8 @@ Counts (Data m t) = m < t
 Counts (DataCr t) = Unit {0}
 Counts (DataLf t) = Unit {0}
 Counts (Trail p k t) = Unit {0}
-Counts (EndLf t) = Unit {0}
-Counts (Done t) = Unit {0}
+Counts (EndLf t n) = Unit {0}
+Counts (Done t n) = Unit {0}
 Counts Dead = ⊥
 
 -- what `possible` tests
@@ -64,8 +64,12 @@ module _ (room : ℕ) where
   possible-stands (Trail p k t) h =
       let w = both (leb k TRAILER_LIMIT) (leb t room) h in
       record { fits = leb-true t room (w .1); line = tt; trailer = leb-true k TRAILER_LIMIT (w .0); counts = tt }
-  possible-stands (EndLf t) h = record { fits = leb-true t room h; line = tt; trailer = tt; counts = tt }
-  possible-stands (Done t) h = record { fits = leb-true t room h; line = tt; trailer = tt; counts = tt }
+  possible-stands (EndLf t n) h =
+      let w = both (leb n TRAILER_LIMIT) (leb t room) h in
+      record { fits = leb-true t room (w .1); line = tt; trailer = leb-true n TRAILER_LIMIT (w .0); counts = tt }
+  possible-stands (Done t n) h =
+      let w = both (leb n TRAILER_LIMIT) (leb t room) h in
+      record { fits = leb-true t room (w .1); line = tt; trailer = leb-true n TRAILER_LIMIT (w .0); counts = tt }
   possible-stands Dead h = false-true h
 
   pub stands-possible : (q : State) → Stands room q → possible room q ≡ true
@@ -79,8 +83,10 @@ module _ (room : ℕ) where
   stands-possible (DataLf t) h = le-leb t room (h .fits)
   stands-possible (Trail p k t) h =
       to-both (leb k TRAILER_LIMIT) (leb t room) (le-leb k TRAILER_LIMIT (h .trailer)) (le-leb t room (h .fits))
-  stands-possible (EndLf t) h = le-leb t room (h .fits)
-  stands-possible (Done t) h = le-leb t room (h .fits)
+  stands-possible (EndLf t n) h =
+      to-both (leb n TRAILER_LIMIT) (leb t room) (le-leb n TRAILER_LIMIT (h .trailer)) (le-leb t room (h .fits))
+  stands-possible (Done t n) h =
+      to-both (leb n TRAILER_LIMIT) (leb t room) (le-leb n TRAILER_LIMIT (h .trailer)) (le-leb t room (h .fits))
   stands-possible Dead h = absurd (h .counts)
 
   pub filled-fits : (q : State) → Stands room q → filled q ≤ room
@@ -91,8 +97,8 @@ module _ (room : ℕ) where
   filled-fits (DataCr t) h = h .fits
   filled-fits (DataLf t) h = h .fits
   filled-fits (Trail p k t) h = h .fits
-  filled-fits (EndLf t) h = h .fits
-  filled-fits (Done t) h = h .fits
+  filled-fits (EndLf t n) h = h .fits
+  filled-fits (Done t n) h = h .fits
   filled-fits Dead h = omega arith
 
 -- ## A byte that leaves a continuation
@@ -125,8 +131,8 @@ grows (DataCr t) b h = to-cond (Grows (t + 0)) (eqb b 13) (λ _ _. (tt, omega ar
 grows (DataLf t) b h = to-cond (Grows (t + 0)) (eqb b 10) (λ _ _. (tt, omega arith)) (λ _. none-grows (t + 0))
 grows (Trail p k t) b h =
     to-cond (Grows (t + 0)) (trailer .ends p && eqb b 13) (λ _ _. (tt, omega arith)) (λ _ _. (tt, omega arith))
-grows (EndLf t) b h = to-cond (Grows (t + 0)) (eqb b 10) (λ _ _. (tt, omega arith)) (λ _. none-grows (t + 0))
-grows (Done t) b h = none-grows (t + 0)
+grows (EndLf t n) b h = to-cond (Grows (t + 0)) (eqb b 10) (λ _ _. (tt, omega arith)) (λ _. none-grows (t + 0))
+grows (Done t n) b h = none-grows (t + 0)
 grows Dead b h = absurd h
 
 module _ (room : ℕ) (q : State) (b : ℕ) (h : Stands room q) (l : live (step q b) ≡ true) where

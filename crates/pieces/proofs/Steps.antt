@@ -9,7 +9,7 @@ use native.Mathlib.Omega.{arith}
 use lib.Dec.{eqb}
 use lib.ListN.{length, take, length-append}
 use borrow.Author.Tests.{eqb-true, eqb-false, eq-eqb, ne-eqb, le-leb}
-use Rattle.grammar.specs.Refusals.{MALFORMED, LINE_TOO_LONG, TRAILER_TOO_LONG, BODY_TOO_LARGE, FRAMED_TOO_LONG}
+use Rattle.grammar.specs.Refusals.{MALFORMED, LINE_TOO_LONG, TRAILER_TOO_LONG, BODY_TOO_LARGE, FORBIDDEN_FIELD, FRAMED_TOO_LONG}
 use Rattle.framing.specs.Answer.{refused}
 use Rattle.framing.specs.declared.State.{State}
 use Rattle.framing.specs.Demand.{Among}
@@ -47,17 +47,19 @@ refusal-of false d o n e = let z : 1 ≡ n = cc in inl (sym z)
 -- the numbers of limits are listed, and none is 0
 among-listed : (n : ℕ) → Among (in-pieces .limits) n → listed n ≡ true
 among-listed n =
-    go (eqb n 0) (eqb n MALFORMED) (eqb n LINE_TOO_LONG) (eqb n TRAILER_TOO_LONG) (eqb n BODY_TOO_LARGE) (eqb n FRAMED_TOO_LONG)
+    go (eqb n 0) (eqb n MALFORMED) (eqb n LINE_TOO_LONG) (eqb n TRAILER_TOO_LONG) (eqb n BODY_TOO_LARGE) (eqb n FORBIDDEN_FIELD)
+    (eqb n FRAMED_TOO_LONG)
   where
-    go : (u v w x y z : Bool) → cond w 0 (suc (cond x 0 (suc (cond y 0 (suc (cond z 0 1)))))) < 4
-        → cond u true (cond v true (cond w true (cond x true (cond y true z)))) ≡ true
-    go true v w x y z h = refl
-    go false true w x y z h = refl
-    go false false true x y z h = refl
-    go false false false true y z h = refl
-    go false false false false true z h = refl
-    go false false false false false true h = refl
-    go false false false false false false h = absurd (omega arith)
+    go : (u v w x y y′ z : Bool) → cond w 0 (suc (cond x 0 (suc (cond y 0 (suc (cond y′ 0 (suc (cond z 0 1)))))))) < 5
+        → cond u true (cond v true (cond w true (cond x true (cond y true (cond y′ true z))))) ≡ true
+    go true v w x y y′ z h = refl
+    go false true w x y y′ z h = refl
+    go false false true x y y′ z h = refl
+    go false false false true y y′ z h = refl
+    go false false false false true y′ z h = refl
+    go false false false false false true z h = refl
+    go false false false false false false true h = refl
+    go false false false false false false false h = absurd (omega arith)
 
 among-some : (n : ℕ) → Among (in-pieces .limits) n → n ≡ 0 → ⊥
 among-some n h e = let z : Among (in-pieces .limits) 0 = subst (Among (in-pieces .limits)) e h in omega arith

@@ -6,7 +6,8 @@ use mathlib.Core.Option.{Option, none, some}
 use Prim.Native.Nat.{ℕ, suc, _-_}
 use lib.Dec.{eqb, leb}
 use lib.ListN.{length, take}
-use Rattle.grammar.specs.Refusals.{OUT_OF_RANGE, MALFORMED, LINE_TOO_LONG, TRAILER_TOO_LONG, BODY_TOO_LARGE, FRAMED_TOO_LONG}
+use Rattle.grammar.specs.Refusals.{OUT_OF_RANGE, MALFORMED, LINE_TOO_LONG, TRAILER_TOO_LONG, BODY_TOO_LARGE}
+use Rattle.grammar.specs.Refusals.{FORBIDDEN_FIELD, FRAMED_TOO_LONG}
 use Rattle.text.specs.Placing.{placed}
 use Rattle.framing.specs.Answer.{Answer, whole, more, refused}
 use Rattle.framing.specs.declared.Whole.{Whole}
@@ -88,8 +89,8 @@ filled (Data m t) = t - suc m
 filled (DataCr t) = t
 filled (DataLf t) = t
 filled (Trail p k t) = t
-filled (EndLf t) = t
-filled (Done t) = t
+filled (EndLf t n) = t
+filled (Done t n) = t
 filled Dead = 0
 
 -- ## Calls
@@ -97,7 +98,7 @@ filled Dead = 0
 abbrev pub listed : ℕ → Bool
 listed n =
     cond (eqb n 0) true (cond (eqb n MALFORMED) true (cond (eqb n LINE_TOO_LONG) true (cond (eqb n TRAILER_TOO_LONG) true
-    (cond (eqb n BODY_TOO_LARGE) true (eqb n FRAMED_TOO_LONG)))))
+    (cond (eqb n BODY_TOO_LARGE) true (cond (eqb n FORBIDDEN_FIELD) true (eqb n FRAMED_TOO_LONG))))))
 
 -- "another output length or a quota of 0 is refusal 9"; so is a state that no calls lead to, by its numbers
 unfoldable pub valid : Pieces → ℕ → ℕ → Bool

@@ -1,7 +1,7 @@
 // Reads chunked bodies in pieces, as they arrive: a state by value goes from call to call, and data is written as it comes.
 ghost use mathlib.Core.Path.{_≡_};
 ghost use mathlib.Core.Bool.{true, false};
-ghost use Prim.Native.Nat.{_+_, _<_, _≤_};
+ghost use Prim.Native.Nat.{_+_, _-_, _<_, _≤_};
 ghost use lib.ListN.{length, length as lengthOf};
 ghost use Rattle.text.specs.Placing.{placed};
 ghost use Rattle.framing.specs.declared.State.the-variants.{Line, Data};
@@ -17,6 +17,7 @@ use framing::LinePos;
 use framing::State;
 use framing::Whole;
 use octets::BODY_TOO_LARGE;
+use octets::FORBIDDEN_FIELD;
 use octets::FRAMED_TOO_LONG;
 use octets::LINE_TOO_LONG;
 use octets::MALFORMED;
@@ -123,8 +124,8 @@ impl Pieces {
                 length: _,
                 total,
             } => total,
-            State::EndLf { total } => total,
-            State::Done { total } => total,
+            State::EndLf { total, trailer: _ } => total,
+            State::Done { total, trailer: _ } => total,
             State::Dead => 0,
         }
     }
@@ -162,9 +163,11 @@ impl Pieces {
         }
         let position = self.position;
         match position {
-            State::Done { total } => Answer::Whole(Whole {
+            State::Done { total, trailer } => Answer::Whole(Whole {
                 taken: self.taken,
                 length: total,
+                trailer_start: back(back(self.taken, 2), trailer),
+                trailer_length: trailer,
             }),
             _ => Answer::More,
         }
@@ -179,7 +182,10 @@ impl Pieces {
         }
         let position = self.position;
         match position {
-            State::Done { total: _ } => true,
+            State::Done {
+                total: _,
+                trailer: _,
+            } => true,
             _ => false,
         }
     }
@@ -350,7 +356,20 @@ fn listed(number: usize) -> bool
     if number == BODY_TOO_LARGE as usize {
         return true;
     }
+    if number == FORBIDDEN_FIELD as usize {
+        return true;
+    }
     number == FRAMED_TOO_LONG as usize
+}
+
+// So many bytes before a place; 0 where there are fewer.
+fn back(place: usize, count: usize) -> usize
+    ensures { λ r. ⌜ r ≡ place - count ⌝ }
+{
+    if place < count {
+        return 0;
+    }
+    place - count
 }
 
 // A chunk line of digits alone at the front of the bytes, with its CR LF, that gives a size above zero and at most `left`.

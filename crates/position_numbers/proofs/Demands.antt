@@ -9,7 +9,7 @@ use Rattle.framing.specs.declared.TrailPos.{TrailPos}
 use Rattle.framing.specs.declared.TrailPos.the-variants as TrailPos
 use Rattle.framing.specs.declared.State.{State}
 use Rattle.framing.specs.declared.State.the-variants.{Line, LineFeed, Data, DataCr, DataLf, Trail, EndLf, Done, Dead}
-use Rattle.position_numbers.specs.Numbers.{ext-number, trail-number, numbers-of, line-of, trail-of, place-of}
+use Rattle.position_numbers.specs.Numbers.{ext-number, trail-number, name-of, numbers-of, line-of, trail-of, place-of}
 
 line-kept : (v : ℕ) → (line-of 0 v ≡ First) × (line-of 1 v ≡ Size v) × ((e : ExtPos) → line-of (ext-number e) v ≡ Ext v e)
 line-kept v = (refl, refl, λ e. go e)
@@ -24,10 +24,11 @@ line-kept v = (refl, refl, λ e. go e)
     go ExtPos.Pair = refl
     go ExtPos.Dead = refl
 
-trail-kept : (p : TrailPos) → trail-of (trail-number p) ≡ p
+trail-kept : (p : TrailPos) → trail-of (name-of p) (trail-number p) ≡ p
 trail-kept TrailPos.LineStart = refl
-trail-kept TrailPos.Name = refl
+trail-kept (TrailPos.Name c) = refl
 trail-kept TrailPos.Value = refl
+trail-kept TrailPos.Forbidden = refl
 trail-kept TrailPos.Lf = refl
 trail-kept TrailPos.Dead = refl
 
@@ -41,6 +42,6 @@ place-kept (Data m t) = refl
 place-kept (DataCr t) = refl
 place-kept (DataLf t) = refl
 place-kept (Trail p k t) = ap (λ (q : TrailPos). Trail q k t) (trail-kept p)
-place-kept (EndLf t) = refl
-place-kept (Done t) = refl
+place-kept (EndLf t n) = refl
+place-kept (Done t n) = refl
 place-kept Dead = refl

@@ -23,26 +23,39 @@ ext-number ExtPos.Dead = 9
 
 abbrev pub trail-number : TrailPos → ℕ
 trail-number TrailPos.LineStart = 0
-trail-number TrailPos.Name = 1
+trail-number (TrailPos.Name c) = 1
 trail-number TrailPos.Value = 2
-trail-number TrailPos.Lf = 3
-trail-number TrailPos.Dead = 4
+trail-number TrailPos.Forbidden = 3
+trail-number TrailPos.Lf = 4
+trail-number TrailPos.Dead = 5
+
+-- what is remembered of a name
+abbrev pub name-of : TrailPos → ℕ
+name-of TrailPos.LineStart = 0
+name-of (TrailPos.Name c) = c
+name-of TrailPos.Value = 0
+name-of TrailPos.Forbidden = 0
+name-of TrailPos.Lf = 0
+name-of TrailPos.Dead = 0
 
 abbrev pub line-numbers : LinePos → ℕ → ℕ → Numbers
-line-numbers First k t = record { position = 0; part = 0; size = 0; length = k; total = t }
-line-numbers (Size v) k t = record { position = 0; part = 1; size = v; length = k; total = t }
-line-numbers (Ext v e) k t = record { position = 0; part = ext-number e; size = v; length = k; total = t }
+line-numbers First k t = record { position = 0; part = 0; name = 0; size = 0; length = k; total = t }
+line-numbers (Size v) k t = record { position = 0; part = 1; name = 0; size = v; length = k; total = t }
+line-numbers (Ext v e) k t = record { position = 0; part = ext-number e; name = 0; size = v; length = k; total = t }
+
+abbrev pub trail-numbers : TrailPos → ℕ → ℕ → Numbers
+trail-numbers p k t = record { position = 5; part = trail-number p; name = name-of p; size = 0; length = k; total = t }
 
 abbrev pub numbers-of : State → Numbers
 numbers-of (Line p k t) = line-numbers p k t
-numbers-of (LineFeed v t) = record { position = 1; part = 0; size = v; length = 0; total = t }
-numbers-of (Data m t) = record { position = 2; part = 0; size = m; length = 0; total = t }
-numbers-of (DataCr t) = record { position = 3; part = 0; size = 0; length = 0; total = t }
-numbers-of (DataLf t) = record { position = 4; part = 0; size = 0; length = 0; total = t }
-numbers-of (Trail p k t) = record { position = 5; part = trail-number p; size = 0; length = k; total = t }
-numbers-of (EndLf t) = record { position = 6; part = 0; size = 0; length = 0; total = t }
-numbers-of (Done t) = record { position = 7; part = 0; size = 0; length = 0; total = t }
-numbers-of Dead = record { position = 8; part = 0; size = 0; length = 0; total = 0 }
+numbers-of (LineFeed v t) = record { position = 1; part = 0; name = 0; size = v; length = 0; total = t }
+numbers-of (Data m t) = record { position = 2; part = 0; name = 0; size = m; length = 0; total = t }
+numbers-of (DataCr t) = record { position = 3; part = 0; name = 0; size = 0; length = 0; total = t }
+numbers-of (DataLf t) = record { position = 4; part = 0; name = 0; size = 0; length = 0; total = t }
+numbers-of (Trail p k t) = trail-numbers p k t
+numbers-of (EndLf t n) = record { position = 6; part = 0; name = 0; size = 0; length = n; total = t }
+numbers-of (Done t n) = record { position = 7; part = 0; name = 0; size = 0; length = n; total = t }
+numbers-of Dead = record { position = 8; part = 0; name = 0; size = 0; length = 0; total = 0 }
 
 -- ## And back: numbers that stand for no case are Dead
 -- the n-th of the cases, from 0; the other one where they are fewer
@@ -63,16 +76,17 @@ ext-of n = nth n exts ExtPos.Dead
 abbrev pub line-of : ℕ → ℕ → LinePos
 line-of n v = nth n (First ∷ Size v ∷ []) (Ext v (ext-of n))
 
-abbrev pub trails : List TrailPos
-trails = TrailPos.LineStart ∷ TrailPos.Name ∷ TrailPos.Value ∷ TrailPos.Lf ∷ []
+abbrev pub trails : ℕ → List TrailPos
+trails name = TrailPos.LineStart ∷ TrailPos.Name name ∷ TrailPos.Value ∷ TrailPos.Forbidden ∷ TrailPos.Lf ∷ []
 
-abbrev pub trail-of : ℕ → TrailPos
-trail-of n = nth n trails TrailPos.Dead
+abbrev pub trail-of : ℕ → ℕ → TrailPos
+trail-of name n = nth n (trails name) TrailPos.Dead
 
 abbrev pub places : Numbers → List State
 places n =
     Line (line-of (n .part) (n .size)) (n .length) (n .total) ∷ LineFeed (n .size) (n .total) ∷ Data (n .size) (n .total) ∷
-    DataCr (n .total) ∷ DataLf (n .total) ∷ Trail (trail-of (n .part)) (n .length) (n .total) ∷ EndLf (n .total) ∷ Done (n .total) ∷ []
+    DataCr (n .total) ∷ DataLf (n .total) ∷ Trail (trail-of (n .name) (n .part)) (n .length) (n .total) ∷
+    EndLf (n .total) (n .length) ∷ Done (n .total) (n .length) ∷ []
 
 abbrev pub place-of : Numbers → State
 place-of n = nth (n .position) (places n) Dead

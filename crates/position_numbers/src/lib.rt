@@ -1,6 +1,7 @@
 // Where a body stands as numbers, and back: for whoever keeps a position outside.
 ghost use mathlib.Core.Path.{_≡_};
-ghost use Rattle.position_numbers.specs.Numbers.{ext-number, trail-number, line-numbers, numbers-of};
+ghost use Rattle.position_numbers.specs.Numbers.{ext-number, trail-number, name-of, line-numbers, trail-numbers};
+ghost use Rattle.position_numbers.specs.Numbers.{numbers-of};
 ghost use Rattle.position_numbers.specs.Numbers.{ext-of, line-of, trail-of, place-of};
 use framing::ExtPos;
 use framing::LinePos;
@@ -8,11 +9,12 @@ use framing::State;
 use framing::TrailPos;
 
 // `position` is the number of the case, and `part` that of the position in a line or a trailer. `size` is what the digits or the line gave,
-// or what is left of the chunk behind the next byte; `total` is the data before the line, or that of all chunks. What a case does not
-// use is 0.
+// or what is left of the chunk behind the next byte; `total` is the data before the line, or that of all chunks. `name` is what is
+// remembered of a name in the trailer; `length` is that of the line or the trailer. What a case does not use is 0.
 pub struct Numbers {
     pub position: u8,
     pub part: u8,
+    pub name: u8,
     pub size: usize,
     pub length: usize,
     pub total: usize,
@@ -36,9 +38,9 @@ pub fn numbers_of(place: State) -> Numbers
             position,
             length,
             total,
-        } => as_numbers(5, trail_number(position), 0, length, total),
-        State::EndLf { total } => as_numbers(6, 0, 0, 0, total),
-        State::Done { total } => as_numbers(7, 0, 0, 0, total),
+        } => trail_numbers(position, length, total),
+        State::EndLf { total, trailer } => as_numbers(6, 0, 0, trailer, total),
+        State::Done { total, trailer } => as_numbers(7, 0, 0, trailer, total),
         State::Dead => as_numbers(8, 0, 0, 0, 0),
     }
 }
@@ -56,12 +58,26 @@ fn line_numbers(position: LinePos, length: usize, before: usize) -> Numbers
 }
 
 fn as_numbers(position: u8, part: u8, size: usize, length: usize, total: usize) -> Numbers
-    ensures { λ r. ⌜ r ≡ record { position = position; part = part; size = size; length = length; total = total } ⌝ }
+    ensures { λ r. ⌜ r ≡ record { position = position; part = part; name = 0; size = size; length = length; total = total } ⌝ }
 {
     Numbers {
         position,
         part,
+        name: 0,
         size,
+        length,
+        total,
+    }
+}
+
+fn trail_numbers(position: TrailPos, length: usize, total: usize) -> Numbers
+    ensures { λ r. ⌜ r ≡ trail-numbers position length total ⌝ }
+{
+    Numbers {
+        position: 5,
+        part: trail_number(position),
+        name: name_of(position),
+        size: 0,
         length,
         total,
     }
@@ -89,12 +105,18 @@ pub fn place_of(n: Numbers) -> State
         3 => State::DataCr { total: n.total },
         4 => State::DataLf { total: n.total },
         5 => State::Trail {
-            position: trail_of(n.part),
+            position: trail_of(n.part, n.name),
             length: n.length,
             total: n.total,
         },
-        6 => State::EndLf { total: n.total },
-        7 => State::Done { total: n.total },
+        6 => State::EndLf {
+            total: n.total,
+            trailer: n.length,
+        },
+        7 => State::Done {
+            total: n.total,
+            trailer: n.length,
+        },
         _ => State::Dead,
     }
 }
@@ -120,10 +142,25 @@ fn trail_number(position: TrailPos) -> u8
 {
     match position {
         TrailPos::LineStart => 0,
-        TrailPos::Name => 1,
+        TrailPos::Name { agreed: _ } => 1,
         TrailPos::Value => 2,
-        TrailPos::Lf => 3,
-        TrailPos::Dead => 4,
+        TrailPos::Forbidden => 3,
+        TrailPos::Lf => 4,
+        TrailPos::Dead => 5,
+    }
+}
+
+// What is remembered of a name.
+fn name_of(position: TrailPos) -> u8
+    ensures { λ r. ⌜ r ≡ name-of position ⌝ }
+{
+    match position {
+        TrailPos::LineStart => 0,
+        TrailPos::Name { agreed } => agreed,
+        TrailPos::Value => 0,
+        TrailPos::Forbidden => 0,
+        TrailPos::Lf => 0,
+        TrailPos::Dead => 0,
     }
 }
 
@@ -157,14 +194,15 @@ fn ext_of(part: u8) -> ExtPos
 }
 
 // A number that stands for no position is that of none that goes on.
-fn trail_of(part: u8) -> TrailPos
-    ensures { λ r. ⌜ r ≡ trail-of part ⌝ }
+fn trail_of(part: u8, name: u8) -> TrailPos
+    ensures { λ r. ⌜ r ≡ trail-of name part ⌝ }
 {
     match part {
         0 => TrailPos::LineStart,
-        1 => TrailPos::Name,
+        1 => TrailPos::Name { agreed: name },
         2 => TrailPos::Value,
-        3 => TrailPos::Lf,
+        3 => TrailPos::Forbidden,
+        4 => TrailPos::Lf,
         _ => TrailPos::Dead,
     }
 }

@@ -1,12 +1,17 @@
 // Where the extensions of a chunk line and the trailer of a body stand, a byte at a time: what every reader of bodies asks.
 ghost use mathlib.Core.Path.{_≡_};
 ghost use mathlib.Core.Bool.{cond, _&&_};
+ghost use Prim.Native.Nat.{suc, _<_};
 ghost use lib.Dec.{eqb};
 ghost use Rattle.framing.specs.helpers.Extensions.{extStep, extEnds, extLive};
-ghost use Rattle.framing.specs.helpers.Trailer.{trailStep, trailEnds, trailLive};
+ghost use Rattle.framing.specs.declared.TrailPos.the-variants.{Name};
+ghost use Rattle.framing.specs.Grammar.{forbidden};
+ghost use Rattle.framing.specs.helpers.Trailer.{trailer, inName, inValue, atForbidden};
 ghost use Rattle.positions.specs.helpers.Ends.{cr-byte};
 use framing::ExtPos;
 use framing::TrailPos;
+use trailer_names::EVERY;
+use trailer_names::WIDTH;
 
 // The position behind a byte of extensions.
 pub fn ext_step(pos: ExtPos, byte: u8) -> ExtPos
@@ -81,47 +86,102 @@ pub fn ext_live(pos: ExtPos) -> bool
 
 // The position behind a byte of the trailer.
 pub fn trail_step(pos: TrailPos, byte: u8) -> TrailPos
-    ensures { λ r. ⌜ r ≡ trailStep pos byte ⌝ }
+    ensures { λ r. ⌜ r ≡ trailer .next pos byte ⌝ }
 {
     let dead = TrailPos::Dead;
     match pos {
-        TrailPos::LineStart => pick_trail(octets::is_token(byte), TrailPos::Name, dead),
-        TrailPos::Name => pick_trail(
-            octets::is_token(byte),
-            TrailPos::Name,
-            pick_trail(byte == b':', TrailPos::Value, dead),
-        ),
-        TrailPos::Value => pick_trail(
-            octets::is_content(byte),
-            TrailPos::Value,
-            pick_trail(byte == b'\r', TrailPos::Lf, dead),
-        ),
+        TrailPos::LineStart => {
+            if octets::is_token(byte) {
+                return name_at(trailer_names::agreeing(EVERY, 0, byte), 0);
+            }
+            dead
+        }
+        TrailPos::Name { agreed } => name_step(agreed, byte),
+        TrailPos::Value => value_byte(byte),
+        TrailPos::Forbidden => value_byte(byte),
         TrailPos::Lf => pick_trail(byte == b'\n', TrailPos::LineStart, dead),
         TrailPos::Dead => dead,
     }
 }
 
+// Behind a byte of a name, or the colon that ends it. Most names soon agree with no forbidden one: then nothing is compared.
+fn name_step(agreed: u8, byte: u8) -> TrailPos
+    ensures { λ r. ⌜ r ≡ trailer .next (Name agreed) byte ⌝ }
+{
+    let dead = TrailPos::Dead;
+    let rows = agreed % WIDTH;
+    if rows == 0 {
+        let value = pick_trail(byte == b':', TrailPos::Value, dead);
+        let name = TrailPos::Name { agreed: 0 };
+        return pick_trail(octets::is_token(byte), name, value);
+    }
+    let length = agreed / WIDTH;
+    let left = trailer_names::agreeing(rows, length, byte);
+    let behind = pick_trail(left == 0, TrailPos::Value, TrailPos::Forbidden);
+    let other = pick_trail(byte == b':', behind, dead);
+    pick_trail(octets::is_token(byte), name_at(left, length), other)
+}
+
+// In a name, with which those in `left` agree behind `length` bytes and one more.
+fn name_at(left: u8, length: u8) -> TrailPos
+    requires { ⌜ (left < 8) × ((left ≡ 0 → ⊥) → length < 18) ⌝ }
+    ensures { λ r. ⌜ r ≡ inName forbidden left (suc length) ⌝ }
+{
+    if left == 0 {
+        return TrailPos::Name { agreed: 0 };
+    }
+    TrailPos::Name {
+        agreed: left + WIDTH * (length + 1),
+    }
+}
+
+fn value_byte(byte: u8) -> TrailPos
+    ensures { λ r. ⌜ r ≡ inValue byte ⌝ }
+{
+    pick_trail(
+        octets::is_content(byte),
+        TrailPos::Value,
+        pick_trail(byte == b'\r', TrailPos::Lf, TrailPos::Dead),
+    )
+}
+
 // Can a trailer go on from there to its end?
 pub fn trail_live(pos: TrailPos) -> bool
-    ensures { λ r. ⌜ r ≡ trailLive pos ⌝ }
+    ensures { λ r. ⌜ r ≡ trailer .alive pos ⌝ }
 {
     match pos {
         TrailPos::LineStart => true,
-        TrailPos::Name => true,
+        TrailPos::Name { agreed: _ } => true,
         TrailPos::Value => true,
+        TrailPos::Forbidden => true,
         TrailPos::Lf => true,
+        TrailPos::Dead => false,
+    }
+}
+
+// Was the byte the colon of a forbidden name?
+pub fn is_forbidden(pos: TrailPos) -> bool
+    ensures { λ r. ⌜ r ≡ atForbidden pos ⌝ }
+{
+    match pos {
+        TrailPos::LineStart => false,
+        TrailPos::Name { agreed: _ } => false,
+        TrailPos::Value => false,
+        TrailPos::Forbidden => true,
+        TrailPos::Lf => false,
         TrailPos::Dead => false,
     }
 }
 
 // Is it the CR that closes the body?
 pub fn closes(pos: TrailPos, byte: u8) -> bool
-    ensures { λ r. ⌜ r ≡ trailEnds pos && eqb byte cr-byte ⌝ }
+    ensures { λ r. ⌜ r ≡ trailer .ends pos && eqb byte cr-byte ⌝ }
 {
     match pos {
         TrailPos::LineStart => byte == b'\r',
-        TrailPos::Name => false,
+        TrailPos::Name { agreed: _ } => false,
         TrailPos::Value => false,
+        TrailPos::Forbidden => false,
         TrailPos::Lf => false,
         TrailPos::Dead => false,
     }

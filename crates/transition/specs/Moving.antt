@@ -20,8 +20,8 @@ possible room (Data m t) = ltb m t && leb t room
 possible room (DataCr t) = leb t room
 possible room (DataLf t) = leb t room
 possible room (Trail p k t) = leb k TRAILER_LIMIT && leb t room
-possible room (EndLf t) = leb t room
-possible room (Done t) = leb t room
+possible room (EndLf t n) = leb n TRAILER_LIMIT && leb t room
+possible room (Done t n) = leb n TRAILER_LIMIT && leb t room
 possible room Dead = false
 
 -- the state that a byte led to, unless it is refused

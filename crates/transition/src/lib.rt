@@ -1,6 +1,6 @@
 // What the next byte of a body comes to, from any position: the machine's step as code, for readers that go a byte at a time.
 ghost use mathlib.Core.Path.{_≡_};
-ghost use mathlib.Core.Bool.{cond};
+ghost use mathlib.Core.Bool.{cond, _&&_};
 ghost use Prim.Native.Nat.{ℕ, suc, _+_, _*_, _≤_};
 ghost use lib.Dec.{eqb, leb};
 ghost use Rattle.framing.specs.Grammar.{LINE_LIMIT as LINE, TRAILER_LIMIT as TRAILER};
@@ -17,6 +17,7 @@ use framing::State;
 use framing::TRAILER_LIMIT;
 use framing::TrailPos;
 use octets::BODY_TOO_LARGE;
+use octets::FORBIDDEN_FIELD;
 use octets::LINE_TOO_LONG;
 use octets::MALFORMED;
 use octets::TRAILER_TOO_LONG;
@@ -58,8 +59,11 @@ pub fn next(position: State, byte: u8, room: usize) -> Step
             length,
             total,
         } => trail_step(position, length, total, byte),
-        State::EndLf { total } => expect(byte, b'\n', State::Done { total }),
-        State::Done { total: _ } => Step::Refused(MALFORMED),
+        State::EndLf { total, trailer } => expect(byte, b'\n', State::Done { total, trailer }),
+        State::Done {
+            total: _,
+            trailer: _,
+        } => Step::Refused(MALFORMED),
         State::Dead => Step::Refused(MALFORMED),
     }
 }
@@ -92,16 +96,21 @@ pub fn possible(position: State, room: usize) -> bool
             position: _,
             length,
             total,
-        } => {
-            if length > TRAILER_LIMIT {
-                return false;
-            }
-            total <= room
-        }
-        State::EndLf { total } => total <= room,
-        State::Done { total } => total <= room,
+        } => trailed(length, total, room),
+        State::EndLf { total, trailer } => trailed(trailer, total, room),
+        State::Done { total, trailer } => trailed(trailer, total, room),
         State::Dead => false,
     }
+}
+
+// With a trailer of that length.
+fn trailed(length: usize, total: usize, room: usize) -> bool
+    ensures { λ r. ⌜ r ≡ leb length TRAILER && leb total room ⌝ }
+{
+    if length > TRAILER_LIMIT {
+        return false;
+    }
+    total <= room
 }
 
 // No sum wraps.
@@ -266,7 +275,10 @@ fn trail_step(position: TrailPos, length: usize, total: usize, byte: u8) -> Step
     ensures { λ r. ⌜ ((room : ℕ) → r ≡ told room (step (Trail position length total) byte)) ⌝ }
 {
     if positions::closes(position, byte) {
-        return Step::To(State::EndLf { total });
+        return Step::To(State::EndLf {
+            total,
+            trailer: length,
+        });
     }
     let next = positions::trail_step(position, byte);
     if !positions::trail_live(next) {
@@ -274,6 +286,9 @@ fn trail_step(position: TrailPos, length: usize, total: usize, byte: u8) -> Step
     }
     if length == TRAILER_LIMIT {
         return Step::Refused(TRAILER_TOO_LONG);
+    }
+    if positions::is_forbidden(next) {
+        return Step::Refused(FORBIDDEN_FIELD);
     }
     Step::To(State::Trail {
         position: next,

@@ -3,7 +3,7 @@
 use crate::measure::{timed, times_as_long, Ratio};
 use independent::generate::Rng;
 use independent::plain::{plain_decode, Answer};
-use quizotepec::{chunked_decode, Decoded};
+use quizotepec::{chunked_decode, Decoded, Span};
 use std::hint::black_box;
 use std::time::Duration;
 
@@ -38,6 +38,14 @@ pub fn frame(body: &[u8], mut chunk_len: impl FnMut() -> usize) -> Vec<u8> {
     frame
 }
 
+/// What ours and the plain decoder say of a whole body with a trailer of so many bytes.
+pub fn whole(taken: usize, length: usize, trailer_length: usize) -> (Decoded, Answer) {
+    let start = taken - trailer_length - b"\r\n".len();
+    let trailer = Span { start, length: trailer_length };
+    let plain_trailer = independent::Span { start, length: trailer_length };
+    (Decoded::Whole { taken, length, trailer }, Answer::Whole { taken, length, trailer: plain_trailer })
+}
+
 /// Lends the output to `run`.
 pub fn lent<A>(output: Output, out: &mut [u8], run: impl FnOnce(&mut [u8]) -> A) -> (Duration, A) {
     if let Output::Cleared = output {
@@ -48,17 +56,18 @@ pub fn lent<A>(output: Output, out: &mut [u8], run: impl FnOnce(&mut [u8]) -> A)
 
 /// Ours against the plain decoder, and ours against a bare copy.
 fn compare(body: &[u8], frame: &[u8], output: Output) -> [Ratio; 2] {
-    let (taken, length) = (frame.len(), body.len());
+    let length = body.len();
+    let (our_whole, plain_whole) = whole(frame.len(), length, 0);
     let mut outputs = [vec![0; length], vec![0; length], vec![0; length]];
     let [first, second, third] = &mut outputs;
     let mut ours = || {
         let (time, answer) = lent(output, first, |out| chunked_decode(black_box(frame), out));
-        assert_eq!(answer, Decoded::Whole { taken, length });
+        assert_eq!(answer, our_whole);
         time
     };
     let mut plain = || {
         let (time, answer) = lent(output, second, |out| plain_decode(black_box(frame), out));
-        assert_eq!(answer, Answer::Whole { taken, length });
+        assert_eq!(answer, plain_whole);
         time
     };
     let mut copy = || lent(output, third, |out| out.copy_from_slice(black_box(body))).0;

@@ -3,12 +3,15 @@
 mod bodies;
 mod measure;
 mod pieces;
+mod trailers;
 mod values;
 
 fn main() {
     bodies::print();
     println!();
     pieces::print();
+    println!();
+    trailers::print();
     println!();
     values::print();
 }

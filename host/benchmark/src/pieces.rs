@@ -1,6 +1,6 @@
 //! The reader in pieces against a plain incremental decoder that is fed the same pieces.
 
-use crate::bodies::{frame, lent, Output, BODY, OUTPUTS};
+use crate::bodies::{frame, lent, whole, Output, BODY, OUTPUTS};
 use crate::measure::{times_as_long, Ratio};
 use independent::generate::Rng;
 use independent::plain::Answer;
@@ -15,7 +15,7 @@ const FEW_ROUNDS: usize = 11;
 /// The data of an Ethernet frame with IP and TCP.
 const PACKET: usize = 1_460;
 
-fn ours(frame: &[u8], piece_len: usize, out: &mut [u8]) -> Decoded {
+pub fn ours(frame: &[u8], piece_len: usize, out: &mut [u8]) -> Decoded {
     let mut pieces = Pieces::new(out);
     let mut answer = Decoded::More;
     for piece in frame.chunks(piece_len) {
@@ -24,7 +24,7 @@ fn ours(frame: &[u8], piece_len: usize, out: &mut [u8]) -> Decoded {
     answer
 }
 
-fn plain(frame: &[u8], piece_len: usize, out: &mut [u8]) -> Answer {
+pub fn plain(frame: &[u8], piece_len: usize, out: &mut [u8]) -> Answer {
     let mut pieces = PlainPieces::default();
     let mut answer = Answer::More;
     for piece in frame.chunks(piece_len) {
@@ -34,17 +34,18 @@ fn plain(frame: &[u8], piece_len: usize, out: &mut [u8]) -> Answer {
 }
 
 fn compare(rounds: usize, body: &[u8], frame: &[u8], piece_len: usize, output: Output) -> Ratio {
-    let (taken, length) = (frame.len(), body.len());
+    let length = body.len();
+    let (our_whole, plain_whole) = whole(frame.len(), length, 0);
     let mut outputs = [vec![0; length], vec![0; length]];
     let [first, second] = &mut outputs;
     let mut ours = || {
         let (time, answer) = lent(output, first, |out| ours(black_box(frame), piece_len, out));
-        assert_eq!(answer, Decoded::Whole { taken, length });
+        assert_eq!(answer, our_whole);
         time
     };
     let mut plain = || {
         let (time, answer) = lent(output, second, |out| plain(black_box(frame), piece_len, out));
-        assert_eq!(answer, Answer::Whole { taken, length });
+        assert_eq!(answer, plain_whole);
         time
     };
     let ratio = times_as_long(rounds, &mut [&mut ours, &mut plain])[0];

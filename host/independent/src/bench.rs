@@ -17,7 +17,7 @@ pub fn run(input: &[u8]) -> String {
         let _ = match frame(line).map(|bytes| decode(&bytes, ROOM)) {
             None => writeln!(output, "X"),
             Some(Decoded::More) => writeln!(output, "M"),
-            Some(Decoded::Whole { taken, data }) => writeln!(output, "C {taken} {}", data.len()),
+            Some(Decoded::Whole { taken, data, .. }) => writeln!(output, "C {taken} {}", data.len()),
             Some(Decoded::Refused(refusal)) => writeln!(output, "R {} {}", refusal.number, refusal.place),
         };
     }

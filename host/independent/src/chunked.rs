@@ -3,7 +3,7 @@
 //! The input is first taken apart with limits aside; the limits are then checked over the pieces.
 
 use crate::grammar::{any_number, one_or_more, optional, parse_front, part, Grammar, Name, Parsed};
-use crate::number::{BODY_TOO_LARGE, LINE_TOO_LONG, MALFORMED, TRAILER_TOO_LONG};
+use crate::number::{BODY_TOO_LARGE, FORBIDDEN_FIELD, LINE_TOO_LONG, MALFORMED, TRAILER_TOO_LONG};
 use crate::rules::{is_text, quoted, quoted_bytes, token, CRLF};
 use crate::{fit, Refusal, Span, OUT_OF_RANGE};
 use std::sync::OnceLock;
@@ -13,6 +13,10 @@ pub const LINE_LIMIT: usize = 1_024;
 pub const TRAILER_LIMIT: usize = 8_192;
 /// The most bytes the writer takes.
 pub const BODY_LIMIT: usize = 1_073_741_824;
+/// "By RFC 2616 14.40 a trailer must not hold" these.
+pub const FORBIDDEN_FIELDS: [&str; 3] = ["Transfer-Encoding", "Content-Length", "Trailer"];
+/// The length of the longest, which is the first.
+pub const FORBIDDEN_LONGEST: usize = FORBIDDEN_FIELDS[0].len();
 
 const HEX: u32 = 16;
 const LAST_CHUNK: &[u8] = b"0\r\n\r\n";
@@ -20,16 +24,22 @@ const LAST_CHUNK: &[u8] = b"0\r\n\r\n";
 const LINE: Name = "line";
 const SIZE: Name = "size";
 const TRAILER_LINE: Name = "trailer line";
+const FIELD_NAME: Name = "field name";
 
 #[derive(Clone, Debug, PartialEq, Eq, Hash)]
 pub enum Decoded {
-    Whole { taken: usize, data: Vec<u8> },
+    Whole { taken: usize, trailer: Span, data: Vec<u8> },
     More,
     Refused(Refusal),
 }
 
 fn is_hex(byte: u8) -> bool {
     byte.is_ascii_hexdigit()
+}
+
+/// Whether a complete name is one that no trailer may hold, "letter case ignored".
+pub fn is_forbidden(name: &[u8]) -> bool {
+    FORBIDDEN_FIELDS.iter().any(|field| name.eq_ignore_ascii_case(field.as_bytes()))
 }
 
 /// A chunk line with its CRLF; no blanks around extensions (house rule).
@@ -47,7 +57,8 @@ fn chunk_line() -> &'static Grammar {
 fn trailer_step() -> &'static Grammar {
     static GRAMMAR: OnceLock<Grammar> = OnceLock::new();
     GRAMMAR.get_or_init(|| {
-        let line = Seq(vec![token(), Exact(":"), any_number(Byte(is_text, b'a')), Exact(CRLF)]);
+        let name = part(FIELD_NAME, token());
+        let line = Seq(vec![name, Exact(":"), any_number(Byte(is_text, b'a')), Exact(CRLF)]);
         OneOf(vec![Exact(CRLF), part(TRAILER_LINE, line)])
     })
 }
@@ -80,6 +91,8 @@ struct Pieces {
     lines: Vec<ChunkLine>,
     data: Vec<Span>,
     trailer: Span,
+    /// The names of trailer lines, each with its colon behind it.
+    names: Vec<Span>,
 }
 
 /// Reads a rule at a place of the input. On a stop the second value says how.
@@ -141,18 +154,22 @@ impl Pieces {
 
     fn trailer(&mut self, input: &[u8], start: usize) -> Result<usize, Outcome> {
         let mut at = start;
+        // "Without one, the start is the closing CRLF and the length 0."
+        self.trailer = Span { start, length: 0 };
         loop {
             let (parsed, outcome) = read_at(trailer_step(), input, at);
             let Some(line) = parsed.first(TRAILER_LINE) else {
                 return outcome;
             };
-            let end = at + parsed.clip(line).end();
-            self.trailer = Span { start, length: end - start };
+            self.trailer.length = at + parsed.clip(line).end() - start;
+            // A colon that is not live was supplied to complete the line: more of the name may come instead.
+            let name = parsed.first(FIELD_NAME).filter(|name| name.end() < parsed.live);
+            self.names.extend(name.map(|name| Span { start: at + name.start, ..name }));
             at = outcome?;
         }
     }
 
-    /// Rows 5, 6 and 7, each at the live byte that its row names.
+    /// Rows 5, 6 and 7, and 15 of document 02, each at the live byte that its row names.
     fn limits(&self, input: &[u8], room: usize) -> Vec<Refusal> {
         let mut broken = Vec::new();
         let mut finished: u128 = 0;
@@ -173,11 +190,13 @@ impl Pieces {
         if self.trailer.length > TRAILER_LIMIT {
             broken.push(Refusal::new(TRAILER_TOO_LONG, self.trailer.start + TRAILER_LIMIT));
         }
+        let forbidden = self.names.iter().filter(|name| is_forbidden(name.of(input)));
+        broken.extend(forbidden.map(|name| Refusal::new(FORBIDDEN_FIELD, name.end())));
         broken
     }
 }
 
-/// The lowest place decides; at one byte the order is 5, 6, 7. A byte that breaks a limit is live, so it stands
+/// The lowest place decides; at one byte the order is 5, 6, 7, 15. A byte that breaks a limit is live, so it stands
 /// before the place of 1 and inside the body.
 pub fn decode(input: &[u8], room: usize) -> Decoded {
     let mut pieces = Pieces::default();
@@ -192,7 +211,7 @@ pub fn decode(input: &[u8], room: usize) -> Decoded {
     match outcome {
         Outcome::Body(taken) => {
             let chunks: Vec<&[u8]> = pieces.data.iter().map(|span| span.of(input)).collect();
-            Decoded::Whole { taken, data: chunks.concat() }
+            Decoded::Whole { taken, trailer: pieces.trailer, data: chunks.concat() }
         }
         Outcome::EndsEarly => Decoded::More,
         Outcome::Malformed(place) => Decoded::Refused(Refusal::new(MALFORMED, place)),

@@ -3,11 +3,16 @@
 mod bodies;
 mod cuttings;
 mod limits;
+mod trailers;
 mod values;
 
-pub use bodies::{body, frame, rooms};
+pub use bodies::{any_body, body, frame, rooms};
 pub use cuttings::{cuttings, every_cutting, pieces_of, quotas};
 pub use limits::at_limits;
+pub use trailers::{
+    allowed_name, allowed_names, body_with_names, forbidden_name, forbidden_names, trailers_with,
+    trailers_with_each_byte,
+};
 pub use values::{instant, numbers, pair};
 
 use crate::grammar::Grammar;
@@ -215,6 +220,9 @@ pub fn short(kind: Kind) -> &'static [Short] {
             (b"0\r\n", b"a:\r\n \0", 6),
             (b"2\r\n", b"a0\r\n", 7),
             (b"1;a", b"=;\"\\a\r\x80", 6),
+            (b"0\r\nTraile", b"rR:s\r\n", 5),
+            (b"0\r\nCONTENT-leng", b"tTHh:", 5),
+            (b"0\r\nA:\r\ntransfer-encodin", b"gG: \r\n", 4),
         ],
     }
 }

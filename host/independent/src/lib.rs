@@ -1,4 +1,4 @@
-//! HTTP/1.1 protocol parameters and chunked bodies, written from documents 01 and 02 (request (i)) alone.
+//! HTTP/1.1 protocol parameters and chunked bodies, written from documents 01 and 02 (requests (i) and (xii)) alone.
 //!
 //! Each rule of the document is a grammar value. A matcher follows every alternative of it, which gives the
 //! longest beginning that can still be completed; limits are checked afterwards, over the parts of that beginning.
@@ -24,7 +24,7 @@ pub mod version;
 
 use grammar::{parse, Grammar, Parsed};
 
-/// The refusal numbers of document 01, and 14 of document 02.
+/// The refusal numbers of document 01, and 14 and 15 of document 02.
 pub mod number {
     pub const MALFORMED: u8 = 1;
     pub const NUMBER_ABOVE_LIMIT: u8 = 2;
@@ -40,6 +40,7 @@ pub mod number {
     pub const COMMENT_TOO_DEEP: u8 = 12;
     pub const VALUE_TOO_LONG: u8 = 13;
     pub const FRAMED_TOO_LONG: u8 = 14;
+    pub const FORBIDDEN_FIELD: u8 = 15;
 }
 
 /// The most bytes of a header value.

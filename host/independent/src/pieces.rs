@@ -1,13 +1,15 @@
-//! Chunked bodies decoded as frames arrive: request (i) of document 02.
+//! Chunked bodies decoded as frames arrive: request (i) of document 02, with the trailer of request (xii).
 //!
 //! Each byte is judged by itself: the grammar gives the position behind it, limits aside; the limits are then
-//! checked over what that position has counted.
+//! checked over what that position has counted, and over the name that a colon ends.
 
-use crate::chunked::{LINE_LIMIT, TRAILER_LIMIT};
-use crate::number::{BODY_TOO_LARGE, FRAMED_TOO_LONG, LINE_TOO_LONG, MALFORMED, TRAILER_TOO_LONG};
+use crate::chunked::{is_forbidden, FORBIDDEN_LONGEST, LINE_LIMIT, TRAILER_LIMIT};
+use crate::number::{
+    BODY_TOO_LARGE, FORBIDDEN_FIELD, FRAMED_TOO_LONG, LINE_TOO_LONG, MALFORMED, TRAILER_TOO_LONG,
+};
 use crate::plain::Answer;
 use crate::rules::{is_pair_byte, is_text, is_token_byte};
-use crate::{Refusal, OUT_OF_RANGE};
+use crate::{Refusal, Span, OUT_OF_RANGE};
 
 /// "A framed body may have 1,099,511,627,776 bytes".
 pub const FRAMED_LIMIT: u64 = 1_099_511_627_776;
@@ -34,11 +36,36 @@ enum LinePart {
     QuotedEnd,
 }
 
+/// How many bytes of a name are kept: one more than any name has that no trailer may hold.
+const KEPT: usize = FORBIDDEN_LONGEST + 1;
+
+/// The first bytes of a trailer line's name: all of a name that no trailer may hold, too many of a longer one to be
+/// taken for such a name.
+#[derive(Clone, Copy, Debug, Default, PartialEq, Eq)]
+struct FieldName {
+    bytes: [u8; KEPT],
+    count: usize,
+}
+
+impl FieldName {
+    fn with(mut self, byte: u8) -> FieldName {
+        if self.count < KEPT {
+            self.bytes[self.count] = byte;
+            self.count += 1;
+        }
+        self
+    }
+
+    fn is_forbidden(self) -> bool {
+        is_forbidden(&self.bytes[..self.count])
+    }
+}
+
 #[derive(Clone, Copy, Debug, PartialEq, Eq)]
 enum TrailerPart {
     /// Before a trailer line or the closing CRLF.
     LineStart,
-    Name,
+    Name(FieldName),
     Text,
     /// Behind the line's CR.
     Break,
@@ -102,8 +129,9 @@ impl TrailerPart {
     fn behind(self, byte: u8) -> Option<TrailerPart> {
         use TrailerPart::*;
         Some(match (self, byte) {
-            (LineStart | Name, _) if is_token_byte(byte) => Name,
-            (Name, b':') => Text,
+            (LineStart, _) if is_token_byte(byte) => Name(FieldName::default().with(byte)),
+            (Name(name), _) if is_token_byte(byte) => Name(name.with(byte)),
+            (Name(_), b':') => Text,
             (Text, CR) => Break,
             (Text, _) if is_text(byte) => Text,
             (Break, LF) => LineStart,
@@ -142,6 +170,11 @@ impl Position {
             _ => return None,
         })
     }
+
+    /// Whether a colon here would end a name that no trailer may hold.
+    fn is_behind_forbidden_name(self) -> bool {
+        matches!(self, Position::Trailer { part: TrailerPart::Name(name), .. } if name.is_forbidden())
+    }
 }
 
 /// What one call took, and its answer. The counts and places in the answer are of the body, not of the call.
@@ -161,6 +194,8 @@ pub struct Pieces {
     taken: u64,
     /// How many bytes of data there are so far.
     length: usize,
+    /// Where the trailer stands, as far as it was read.
+    trailer: Span,
     /// The last answer about the body.
     answer: Answer,
 }
@@ -173,7 +208,14 @@ impl Pieces {
     /// For tests near the limit, which real bytes are too many for: before the first chunk line, as if `taken` bytes
     /// had been there. No body stands so unless `taken` is 0.
     pub fn after(room: usize, taken: u64) -> Pieces {
-        Pieces { room, position: CHUNK_START, taken, length: 0, answer: Answer::More }
+        Pieces {
+            room,
+            position: CHUNK_START,
+            taken,
+            length: 0,
+            trailer: Span::default(),
+            answer: Answer::More,
+        }
     }
 
     /// Takes the next bytes. `out` is the output as the last call left it.
@@ -209,13 +251,18 @@ impl Pieces {
         }
         self.position = behind;
         self.taken += 1;
-        if behind == Position::End {
-            self.answer = Answer::Whole { taken: self.taken as usize, length: self.length };
+        let taken = self.taken as usize;
+        match behind {
+            Position::Trailer { bytes, .. } => self.trailer = Span { start: taken - bytes, length: bytes },
+            Position::End => {
+                self.answer = Answer::Whole { taken, length: self.length, trailer: self.trailer };
+            }
+            _ => {}
         }
         true
     }
 
-    /// The position behind the byte, or the number of its refusal: "at one byte: 1, 5, 6, 7", then 14.
+    /// The position behind the byte, or the number of its refusal: "at one byte: 1, 5, 6, 7", then 15, then 14.
     fn judge(&self, byte: u8) -> Result<Position, u8> {
         let behind = self.position.behind(byte).ok_or(MALFORMED)?;
         match behind {
@@ -225,6 +272,8 @@ impl Pieces {
             Position::Line { size, .. } if self.length as u128 + size > self.room as u128 => {
                 Err(BODY_TOO_LARGE)
             }
+            // "new refusal 15 at the colon, just before 14 in the order at one byte"
+            _ if byte == b':' && self.position.is_behind_forbidden_name() => Err(FORBIDDEN_FIELD),
             _ if self.taken >= FRAMED_LIMIT => Err(FRAMED_TOO_LONG),
             _ => Ok(behind),
         }

@@ -3,14 +3,14 @@
 //! It copies each chunk as it goes, so a body that turns out not to be whole leaves bytes in the output.
 //! Its answers are those of `chunked::decode`.
 
-use crate::chunked::{LINE_LIMIT, TRAILER_LIMIT};
-use crate::number::{BODY_TOO_LARGE, LINE_TOO_LONG, MALFORMED, TRAILER_TOO_LONG};
+use crate::chunked::{is_forbidden, LINE_LIMIT, TRAILER_LIMIT};
+use crate::number::{BODY_TOO_LARGE, FORBIDDEN_FIELD, LINE_TOO_LONG, MALFORMED, TRAILER_TOO_LONG};
 use crate::rules::{is_text, is_token_byte};
-use crate::Refusal;
+use crate::{Refusal, Span};
 
 #[derive(Clone, Copy, Debug, PartialEq, Eq, Hash)]
 pub enum Answer {
-    Whole { taken: usize, length: usize },
+    Whole { taken: usize, length: usize, trailer: Span },
     More,
     Refused(Refusal),
 }
@@ -126,6 +126,18 @@ impl Reader<'_> {
         }
         Ok(())
     }
+
+    fn field_name(&mut self) -> Step<()> {
+        let start = self.at;
+        self.token()?;
+        let colon = self.at;
+        // 1 and 6 come before 15 at the colon.
+        self.expect(b':')?;
+        if is_forbidden(&self.input[start..colon]) {
+            return refused(FORBIDDEN_FIELD, colon);
+        }
+        Ok(())
+    }
 }
 
 /// The place after a CRLF that stands at `at`.
@@ -183,24 +195,25 @@ fn chunk_line(input: &[u8], start: usize, room_left: usize) -> Step<(usize, usiz
     Ok((size, line_break(input, at)?))
 }
 
-fn trailer(input: &[u8], at: usize) -> Step<usize> {
-    let mut lines = Reader { input, at, start: at, limit: TRAILER_LIMIT, refusal: TRAILER_TOO_LONG };
+/// The trailer, and the place behind the closing CRLF.
+fn trailer(input: &[u8], start: usize) -> Step<(Span, usize)> {
+    let mut lines = Reader { input, at: start, start, limit: TRAILER_LIMIT, refusal: TRAILER_TOO_LONG };
     while lines.peek()? != b'\r' {
-        lines.token()?;
-        lines.expect(b':')?;
+        lines.field_name()?;
         lines.run(is_text)?;
         lines.expect(b'\r')?;
         lines.expect(b'\n')?;
     }
-    line_break(input, lines.at)
+    Ok((Span { start, length: lines.at - start }, line_break(input, lines.at)?))
 }
 
-fn decode_steps(input: &[u8], out: &mut [u8]) -> Step<(usize, usize)> {
+fn decode_steps(input: &[u8], out: &mut [u8]) -> Step<Answer> {
     let (mut at, mut length) = (0, 0);
     loop {
         let (size, data) = chunk_line(input, at, out.len() - length)?;
         if size == 0 {
-            return Ok((trailer(input, data)?, length));
+            let (trailer, taken) = trailer(input, data)?;
+            return Ok(Answer::Whole { taken, length, trailer });
         }
         let Some(chunk) = input.get(data..data.saturating_add(size)) else {
             return Err(Stop::More);
@@ -213,7 +226,7 @@ fn decode_steps(input: &[u8], out: &mut [u8]) -> Step<(usize, usize)> {
 
 pub fn plain_decode(input: &[u8], out: &mut [u8]) -> Answer {
     match decode_steps(input, out) {
-        Ok((taken, length)) => Answer::Whole { taken, length },
+        Ok(whole) => whole,
         Err(Stop::More) => Answer::More,
         Err(Stop::Refused(refusal)) => Answer::Refused(refusal),
     }

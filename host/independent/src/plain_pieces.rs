@@ -1,13 +1,16 @@
 //! A chunked decoder that keeps its position between pieces, for speed: the baseline of the benchmarks.
 //!
-//! It passes over extensions and trailer lines without a look at their grammar, and has no limit on the framed body.
-//! Its answers are those of `pieces` where no byte is malformed.
+//! It passes over extensions and trailer lines without a look at their grammar, only at the lines' names, and has no
+//! limit on the framed body. Its answers are those of `pieces` where no byte is malformed, up to that limit.
 
-use crate::chunked::{LINE_LIMIT, TRAILER_LIMIT};
-use crate::number::{BODY_TOO_LARGE, LINE_TOO_LONG, MALFORMED, TRAILER_TOO_LONG};
+use crate::chunked::{is_forbidden, FORBIDDEN_LONGEST, LINE_LIMIT, TRAILER_LIMIT};
+use crate::number::{BODY_TOO_LARGE, FORBIDDEN_FIELD, LINE_TOO_LONG, MALFORMED, TRAILER_TOO_LONG};
 use crate::pieces::Fed;
 use crate::plain::Answer;
-use crate::Refusal;
+use crate::{Refusal, Span};
+
+/// How many bytes the CRLF has that closes a body.
+const CLOSING: usize = 2;
 
 #[derive(Clone, Copy, Debug, PartialEq, Eq)]
 enum Position {
@@ -20,6 +23,7 @@ enum Position {
     DataEnd,
     DataBreak,
     TrailerStart,
+    TrailerName,
     TrailerLine,
     TrailerBreak,
     Closing,
@@ -38,11 +42,22 @@ pub struct PlainPieces {
     /// How many bytes of data were written.
     length: usize,
     taken: usize,
+    /// The front of a trailer line's name, and how many bytes the name has.
+    name: [u8; FORBIDDEN_LONGEST],
+    name_length: usize,
 }
 
 impl Default for PlainPieces {
     fn default() -> Self {
-        PlainPieces { position: Position::SizeStart, size: 0, counted: 0, length: 0, taken: 0 }
+        PlainPieces {
+            position: Position::SizeStart,
+            size: 0,
+            counted: 0,
+            length: 0,
+            taken: 0,
+            name: [0; FORBIDDEN_LONGEST],
+            name_length: 0,
+        }
     }
 }
 
@@ -91,7 +106,11 @@ impl PlainPieces {
 
     fn answer(&self) -> Answer {
         match self.position {
-            Position::Done => Answer::Whole { taken: self.taken, length: self.length },
+            Position::Done => {
+                let start = self.taken - CLOSING - self.counted;
+                let trailer = Span { start, length: self.counted };
+                Answer::Whole { taken: self.taken, length: self.length, trailer }
+            }
             Position::Refused(number) => Answer::Refused(Refusal::new(number, self.taken)),
             _ => Answer::More,
         }
@@ -122,8 +141,16 @@ impl PlainPieces {
             Position::DataEnd => expect(byte, b'\r', Position::DataBreak),
             Position::DataBreak => expect(byte, b'\n', Position::SizeStart),
             Position::TrailerStart if byte == b'\r' => Ok(Position::Closing),
-            Position::TrailerLine if byte == b'\r' => self.trailer(Position::TrailerBreak),
-            Position::TrailerStart | Position::TrailerLine => self.trailer(Position::TrailerLine),
+            Position::TrailerStart => {
+                self.name_length = 0;
+                self.name_byte(byte)
+            }
+            Position::TrailerName if byte == b':' => self.colon(),
+            Position::TrailerName | Position::TrailerLine if byte == b'\r' => {
+                self.trailer(Position::TrailerBreak)
+            }
+            Position::TrailerName => self.name_byte(byte),
+            Position::TrailerLine => self.trailer(Position::TrailerLine),
             Position::TrailerBreak if byte == b'\n' => self.trailer(Position::TrailerStart),
             Position::Closing => expect(byte, b'\n', Position::Done),
             _ => Err(MALFORMED),
@@ -172,6 +199,22 @@ impl PlainPieces {
 
     fn trailer(&mut self, next: Position) -> Result<Position, u8> {
         self.count(TRAILER_LIMIT, TRAILER_TOO_LONG, next)
+    }
+
+    fn name_byte(&mut self, byte: u8) -> Result<Position, u8> {
+        if let Some(kept) = self.name.get_mut(self.name_length) {
+            *kept = byte;
+        }
+        self.name_length += 1;
+        self.trailer(Position::TrailerName)
+    }
+
+    fn colon(&mut self) -> Result<Position, u8> {
+        let next = self.trailer(Position::TrailerLine)?;
+        match self.name.get(..self.name_length) {
+            Some(name) if is_forbidden(name) => Err(FORBIDDEN_FIELD),
+            _ => Ok(next),
+        }
     }
 
     #[inline]

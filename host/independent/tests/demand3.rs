@@ -1,22 +1,29 @@
 //! Demand 3 of the independent decoder, by trying every beginning, longer inputs and several rooms.
 
-use independent::chunked::{decode, encode, Decoded, LINE_LIMIT, TRAILER_LIMIT};
-use independent::generate::{any, at_limits, body, every, frame, rooms, short, Kind, Rng};
+use independent::chunked::{decode, encode, Decoded, FORBIDDEN_FIELDS, LINE_LIMIT, TRAILER_LIMIT};
+use independent::generate::{allowed_names, body_with_names, forbidden_name, forbidden_names};
+use independent::generate::{any, at_limits, body, cut, damage, every, frame, rooms, short, Kind, Rng};
+use independent::generate::{trailers_with, trailers_with_each_byte};
 use independent::number::{BODY_TOO_LARGE, LINE_TOO_LONG, TRAILER_TOO_LONG};
 use independent::plain::{plain_decode, Answer};
-use independent::Refusal;
+use independent::{Refusal, Span};
 
 const ROUNDS: usize = 2_000;
 const MANY_ROUNDS: usize = 200_000;
 const AMPLE: usize = 4_096;
 const UNTOUCHED: u8 = 0xA5;
 
+/// A whole body of all the bytes, which has no trailer.
+fn whole(taken: usize, data: Vec<u8>) -> Decoded {
+    Decoded::Whole { taken, trailer: Span { start: taken - 2, length: 0 }, data }
+}
+
 /// The fast decoder gives the same answer, and the same bytes when the body is whole.
 fn same_as_plain(input: &[u8], room: usize, decoded: &Decoded) {
     let mut out = vec![UNTOUCHED; room];
     match (decoded, plain_decode(input, &mut out)) {
-        (Decoded::Whole { taken, data }, Answer::Whole { taken: plain, length }) => {
-            assert_eq!((*taken, data.len()), (plain, length), "{input:?}");
+        (Decoded::Whole { taken, trailer, data }, Answer::Whole { taken: plain, length, trailer: lines }) => {
+            assert_eq!((*taken, data.len(), *trailer), (plain, length, lines), "{input:?}");
             assert_eq!(&out[..length], &data[..]);
             assert!(out[length..].iter().all(|byte| *byte == UNTOUCHED));
         }
@@ -40,6 +47,15 @@ fn stands(input: &[u8], room: usize, ends: impl Iterator<Item = usize>) {
         assert_eq!(&answer, expected, "{end} bytes of {input:?} in room {room}");
     }
     same_as_plain(input, room.min(AMPLE), &decode(input, room.min(AMPLE)));
+    without_trailer(input, room, &last);
+}
+
+/// The trailer and the closing CRLF end the body; without the trailer it is a body of the same data.
+fn without_trailer(input: &[u8], room: usize, decoded: &Decoded) {
+    let Decoded::Whole { taken, trailer, data } = decoded else { return };
+    assert_eq!(trailer.end() + 2, *taken, "{input:?}");
+    let shorter = [&input[..trailer.start], b"\r\n"].concat();
+    assert_eq!(decode(&shorter, room), whole(shorter.len(), data.clone()), "{input:?}");
 }
 
 /// More room changes no answer but refusal 7.
@@ -60,9 +76,10 @@ fn generated_bodies() {
         let size = input.len();
         input.extend(any(Kind::Chunked, &mut rng));
         for room in rooms(length) {
-            let answer = decode(&input, room);
-            let whole =
-                matches!(answer, Decoded::Whole { taken, ref data } if taken == size && data.len() == length);
+            let whole = match decode(&input, room) {
+                Decoded::Whole { taken, data, .. } => taken == size && data.len() == length,
+                _ => false,
+            };
             assert_eq!(whole, room >= length, "{input:?} in room {room}");
             stands(&input, room, 0..=input.len());
         }
@@ -81,6 +98,41 @@ fn damaged_bodies() {
     }
 }
 
+/// Names in trailers: every beginning, in rooms on both sides of the line.
+#[test]
+fn names_in_trailers() {
+    let mut rng = Rng::new(5);
+    let forbidden = FORBIDDEN_FIELDS.map(|name| name.as_bytes().to_vec());
+    let names = [&forbidden[..], &allowed_names(), &[forbidden_name(&mut rng)]].concat();
+    for input in names.iter().flat_map(|name| trailers_with(name)) {
+        stands(&input, AMPLE, 0..=input.len());
+        roomier(&input, &[0, 7, 8, AMPLE]);
+    }
+    for name in forbidden_names(&mut rng) {
+        let input = [b"0\r\n", &name[..], b":"].concat();
+        stands(&input, 0, 0..=input.len());
+    }
+}
+
+/// Each beginning of a forbidden name with each byte behind it, and what may follow.
+#[test]
+fn names_with_each_byte() {
+    for input in trailers_with_each_byte() {
+        stands(&input, 0, 0..=input.len());
+    }
+}
+
+#[test]
+fn random_trailers() {
+    let mut rng = Rng::new(6);
+    for _ in 0..ROUNDS {
+        let input = body_with_names(&mut rng);
+        stands(&input, 0, 0..=input.len());
+        let damaged = damage(input, &mut rng);
+        stands(&damaged, 0, 0..=damaged.len());
+    }
+}
+
 #[test]
 #[ignore = "some seconds in release mode"]
 fn many_random_bodies() {
@@ -88,8 +140,10 @@ fn many_random_bodies() {
     for _ in 0..MANY_ROUNDS {
         let input = any(Kind::Chunked, &mut rng);
         let room = rng.below(100);
-        let decoded = decode(&input, room);
-        same_as_plain(&input, room, &decoded);
+        same_as_plain(&input, room, &decode(&input, room));
+        let damaged = damage(body_with_names(&mut rng), &mut rng);
+        let input = cut(damaged, &mut rng);
+        same_as_plain(&input, room, &decode(&input, room));
     }
 }
 
@@ -170,7 +224,7 @@ fn written_bodies_are_read_back() {
     for _ in 0..ROUNDS {
         let (body, chunk_len, out_len) = frame(&mut rng);
         let Ok(written) = encode(&body, chunk_len, out_len) else { continue };
-        let expected = Decoded::Whole { taken: written.len(), data: body.clone() };
+        let expected = whole(written.len(), body.clone());
         assert_eq!(decode(&written, body.len()), expected);
         same_as_plain(&written, body.len(), &expected);
     }
@@ -183,8 +237,7 @@ fn long_inputs_take_linear_time() {
     let mut input = b"1\r\nx\r\n".repeat(CHUNKS);
     assert_eq!(decode(&input, CHUNKS), Decoded::More);
     input.extend_from_slice(b"0\r\n\r\n");
-    let whole = Decoded::Whole { taken: input.len(), data: vec![b'x'; CHUNKS] };
-    assert_eq!(decode(&input, CHUNKS), whole);
+    assert_eq!(decode(&input, CHUNKS), whole(input.len(), vec![b'x'; CHUNKS]));
     let line = [b"0;".to_vec(), vec![b'a'; 1 << 20]].concat();
     assert_eq!(decode(&line, 0), Decoded::Refused(Refusal { number: LINE_TOO_LONG, place: LINE_LIMIT }));
     let trailer = [b"0\r\n".to_vec(), b"a:b\r\n".repeat(CHUNKS)].concat();

@@ -455,8 +455,14 @@ fn url_equality() {
     assert_eq!(equal("http://a", "http://a:65536"), Err(which(Which::Second, 2, 13)));
 }
 
+/// A whole body without a trailer.
 fn whole(taken: usize, data: &[u8]) -> Decoded {
-    Decoded::Whole { taken, data: data.to_vec() }
+    with_trailer(taken, 0, data)
+}
+
+/// A whole body with this many bytes of trailer.
+fn with_trailer(taken: usize, length: usize, data: &[u8]) -> Decoded {
+    Decoded::Whole { taken, trailer: Span { start: taken - 2 - length, length }, data: data.to_vec() }
 }
 
 fn chunked_refusal(number: u8, place: usize) -> Decoded {
@@ -474,7 +480,7 @@ fn chunked_bodies() {
     assert_eq!(decode(b"5\r\n0\r\n\r\n\r\n0\r\n\r\n", 9), whole(15, b"0\r\n\r\n"));
     assert_eq!(
         decode(b"a;x;y=z;q=\"\\\"\"\r\n0123456789\r\n00;x\r\nA:\r\nB: c\r\n\r\n", 10),
-        whole(46, b"0123456789")
+        with_trailer(46, 10, b"0123456789")
     );
     assert_eq!(decode(b"5\r", 5), Decoded::More);
     assert_eq!(decode(b"5\rX", 5), chunked_refusal(1, 2));
@@ -509,7 +515,7 @@ fn chunk_line_limit() {
 #[test]
 fn trailer_limit() {
     let trailer = |count: usize| [b"0\r\nA:".to_vec(), vec![b'x'; count - 4], b"\r\n\r\n".to_vec()].concat();
-    assert_eq!(decode(&trailer(TRAILER_LIMIT), 0), whole(TRAILER_LIMIT + 5, b""));
+    assert_eq!(decode(&trailer(TRAILER_LIMIT), 0), with_trailer(TRAILER_LIMIT + 5, TRAILER_LIMIT, b""));
     assert_eq!(decode(&trailer(TRAILER_LIMIT + 1), 0), chunked_refusal(6, 3 + TRAILER_LIMIT));
     let cut = &trailer(TRAILER_LIMIT)[..3 + TRAILER_LIMIT];
     assert_eq!(decode(cut, 0), Decoded::More);

@@ -2,7 +2,9 @@
 //! outcome; the cuttings add up.
 
 use independent::chunked::{decode, Decoded};
+use independent::generate::{allowed_name, allowed_names, forbidden_name, forbidden_names};
 use independent::generate::{any, at_limits, cuttings, every_cutting, pair, pieces_of, quotas, Kind, Rng};
+use independent::generate::{any_body, body, body_with_names};
 use independent::{etag, language, media, url, version, Refused, Which};
 use std::cmp::Ordering;
 use std::collections::{BTreeSet, HashSet};
@@ -45,7 +47,55 @@ fn header_values() {
 
 #[test]
 fn chunked_bodies() {
-    reaches(Kind::Chunked, &[0, 1, 5, 6, 7]);
+    reaches(Kind::Chunked, &[0, 1, 5, 6, 7, 15]);
+}
+
+/// Forbidden names are just the three, `Trailer` in every letter case; allowed ones are none of them.
+#[test]
+fn names_in_trailers() {
+    let forbidden = |name: &[u8]| {
+        let lower = name.to_ascii_lowercase();
+        [&b"transfer-encoding"[..], b"content-length", b"trailer"].contains(&&lower[..])
+    };
+    let mut rng = Rng::new(10);
+    let names: HashSet<_> = forbidden_names(&mut rng).into_iter().collect();
+    assert!(names.iter().all(|name| forbidden(name)));
+    let trailer = names.iter().filter(|name| name.len() == 7).count();
+    assert_eq!(trailer, 1 << 7);
+    assert!(allowed_names().iter().all(|name| !forbidden(name)));
+    for _ in 0..ROUNDS {
+        assert!(forbidden(&forbidden_name(&mut rng)));
+        assert!(!forbidden(&allowed_name(&mut rng)));
+    }
+    let numbers: BTreeSet<u8> =
+        (0..ROUNDS).map(|_| number(Kind::Chunked, &body_with_names(&mut rng), 0)).collect();
+    assert_eq!(numbers, BTreeSet::from([0, 15]));
+}
+
+/// A body of the one generator is whole in enough room; one of the other may have a forbidden name.
+#[test]
+fn trailers_of_bodies() {
+    let mut rng = Rng::new(11);
+    let mut numbers = BTreeSet::new();
+    for _ in 0..ROUNDS {
+        let (input, length) = body(&mut rng);
+        assert_eq!(number(Kind::Chunked, &input, length), 0, "{input:?}");
+        let (input, length) = any_body(&mut rng);
+        numbers.insert(number(Kind::Chunked, &input, length));
+    }
+    assert_eq!(numbers, BTreeSet::from([0, 15]));
+}
+
+/// The byte 8,192 of a trailer may be a forbidden name's colon; from the byte 8,193 on it is 6.
+#[test]
+fn names_at_the_trailers_limit() {
+    let inputs = at_limits(Kind::Chunked);
+    for (byte, expected) in [(8_191, 15), (8_192, 15), (8_193, 6), (8_194, 6), (8_195, 6)] {
+        let is_cut_at_colon = |input: &&Vec<u8>| input.len() == 3 + byte && input.ends_with(b"\r\nTrailer:");
+        let colons: Vec<_> = inputs.iter().filter(is_cut_at_colon).collect();
+        assert!(!colons.is_empty());
+        assert!(colons.iter().all(|input| number(Kind::Chunked, input, 0) == expected), "{byte}");
+    }
 }
 
 fn compare(kind: Kind, (first, second): (Vec<u8>, Vec<u8>)) -> Result<bool, Refused> {

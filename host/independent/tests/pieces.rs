@@ -1,16 +1,19 @@
-//! Request (i) of document 02: its clauses, and every cutting against the one-call reader of document 01.
+//! Request (i) of document 02: its clauses, and every cutting against the one-call reader of document 01, also with
+//! the trailers of request (xii).
 
 use independent::chunked::{decode, Decoded, LINE_LIMIT, TRAILER_LIMIT};
 use independent::generate::{
-    any, at_limits, body, cuttings, every, every_cutting, pieces_of, quotas, rooms, short,
+    allowed_names, body_with_names, damage, forbidden_names, trailers_with, trailers_with_each_byte,
+};
+use independent::generate::{
+    any, any_body, at_limits, cuttings, every, every_cutting, pieces_of, quotas, rooms, short,
 };
 use independent::generate::{Kind, Rng};
-use independent::number::{
-    ARGUMENT_OUT_OF_RANGE, BODY_TOO_LARGE, FRAMED_TOO_LONG, LINE_TOO_LONG, MALFORMED, TRAILER_TOO_LONG,
-};
+use independent::number::{ARGUMENT_OUT_OF_RANGE, BODY_TOO_LARGE, FORBIDDEN_FIELD, FRAMED_TOO_LONG};
+use independent::number::{LINE_TOO_LONG, MALFORMED, TRAILER_TOO_LONG};
 use independent::pieces::{Fed, Pieces, FRAMED_LIMIT};
 use independent::plain::Answer;
-use independent::Refusal;
+use independent::{Refusal, Span};
 
 const HELLO: &[u8] = b"5\r\nhello\r\n0\r\n\r\n";
 const ROOM: usize = 8;
@@ -23,6 +26,11 @@ const MANY_ROUNDS: usize = 50_000;
 
 fn refused(number: u8, place: usize) -> Answer {
     Answer::Refused(Refusal { number, place })
+}
+
+/// A whole body without a trailer.
+fn whole(taken: usize, length: usize) -> Answer {
+    Answer::Whole { taken, length, trailer: Span { start: taken - 2, length: 0 } }
 }
 
 fn fed(taken: usize, answer: Answer) -> Fed {
@@ -124,10 +132,9 @@ fn pieces_of_one_byte() {
     for byte in before {
         assert_eq!(reading.feed(&[*byte], 1), fed(1, Answer::More));
     }
-    let whole = Answer::Whole { taken: 15, length: 5 };
-    assert_eq!(reading.feed(&[*last], 1), fed(1, whole));
+    assert_eq!(reading.feed(&[*last], 1), fed(1, whole(15, 5)));
     assert_eq!(reading.out, output(b"hello", ROOM));
-    reading.stays(whole);
+    reading.stays(whole(15, 5));
 }
 
 #[test]
@@ -136,7 +143,7 @@ fn data_so_far() {
     Reading::start(ROOM).expect(b"", more(0), b"");
     Reading::start(ROOM).expect(&HELLO[..3], more(3), b"");
     let hell = Reading::start(ROOM).expect(&HELLO[..7], more(7), b"hell");
-    hell.expect(&HELLO[7..], fed(8, Answer::Whole { taken: 15, length: 5 }), b"hello");
+    hell.expect(&HELLO[7..], fed(8, whole(15, 5)), b"hello");
     let malformed = fed(8, refused(MALFORMED, 8));
     Reading::start(ROOM).expect(b"5\r\nhelloX", malformed, b"hello");
     let two = b"2\r\nab\r\n3;a=\"b\"\r\ncde\r\n";
@@ -149,8 +156,8 @@ fn data_so_far() {
 #[test]
 fn room() {
     Reading::start(4).expect(HELLO, fed(0, refused(BODY_TOO_LARGE, 0)), b"");
-    Reading::start(5).expect(HELLO, fed(15, Answer::Whole { taken: 15, length: 5 }), b"hello");
-    Reading::start(0).expect(b"0\r\n\r\n", fed(5, Answer::Whole { taken: 5, length: 0 }), b"");
+    Reading::start(5).expect(HELLO, fed(15, whole(15, 5)), b"hello");
+    Reading::start(0).expect(b"0\r\n\r\n", fed(5, whole(5, 0)), b"");
     Reading::start(0).expect(b"1", fed(0, refused(BODY_TOO_LARGE, 0)), b"");
     let long = Reading::start(15).expect(b"0000F", fed(5, Answer::More), b"");
     long.expect(b"0", fed(0, refused(BODY_TOO_LARGE, 5)), b"");
@@ -163,11 +170,11 @@ fn quota_ends_a_call() {
     assert_eq!(reading.feed(&HELLO[3..], 1), fed(1, Answer::More));
     assert_eq!(reading.out, output(b"h", ROOM));
     assert_eq!(reading.feed(b"", 1), fed(0, Answer::More));
-    assert_eq!(reading.feed(&HELLO[4..], NO_QUOTA), fed(11, Answer::Whole { taken: 15, length: 5 }));
+    assert_eq!(reading.feed(&HELLO[4..], NO_QUOTA), fed(11, whole(15, 5)));
     // The body may end with the quota.
     let mut reading = Reading::start(ROOM);
     assert_eq!(reading.feed(HELLO, HELLO.len() - 1), fed(14, Answer::More));
-    assert_eq!(reading.feed(b"\n\n", 1), fed(1, Answer::Whole { taken: 15, length: 5 }));
+    assert_eq!(reading.feed(b"\n\n", 1), fed(1, whole(15, 5)));
 }
 
 /// "what lies beyond the quota doesn't count"
@@ -186,7 +193,7 @@ fn bytes_beyond_the_quota() {
 #[test]
 fn bytes_behind_the_body() {
     let input = [HELLO, HELLO].concat();
-    Reading::start(ROOM).expect(&input, fed(15, Answer::Whole { taken: 15, length: 5 }), b"hello");
+    Reading::start(ROOM).expect(&input, fed(15, whole(15, 5)), b"hello");
 }
 
 #[test]
@@ -198,14 +205,14 @@ fn arguments_out_of_range() {
         assert_eq!(reading.feed(&[*byte], 1).taken, 1);
     }
     reading.refuses_arguments(b"0");
-    reading.stays(Answer::Whole { taken: 15, length: 5 });
+    reading.stays(whole(15, 5));
     let mut damaged = Reading::start(ROOM);
     assert_eq!(damaged.feed(b"x", 1), fed(0, refused(MALFORMED, 0)));
     damaged.refuses_arguments(b"0");
     damaged.stays(refused(MALFORMED, 0));
     let mut none = Reading::start(0);
     none.refuses_arguments(b"0");
-    none.expect(b"0\r\n\r\n", fed(5, Answer::Whole { taken: 5, length: 0 }), b"");
+    none.expect(b"0\r\n\r\n", fed(5, whole(5, 0)), b"");
 }
 
 /// No output is as long as the greatest room.
@@ -216,14 +223,14 @@ fn greatest_room() {
     assert_eq!(pieces, Pieces::start(usize::MAX));
 }
 
-/// At one byte the order is 1, 5, 6, 7, 14.
+/// At one byte the order is 1, 5, 6, 7, 15, 14.
 #[test]
 fn order_at_one_byte() {
     let zeros = vec![b'0'; LINE_LIMIT];
     let line = Reading::start(4).expect(&zeros, fed(LINE_LIMIT, Answer::More), b"");
     line.clone().expect(b"5", fed(0, refused(LINE_TOO_LONG, LINE_LIMIT)), b"");
     line.clone().expect(b"\0", fed(0, refused(MALFORMED, LINE_LIMIT)), b"");
-    line.expect(b"\r\n\r\n", fed(4, Answer::Whole { taken: LINE_LIMIT + 4, length: 0 }), b"");
+    line.expect(b"\r\n\r\n", fed(4, whole(LINE_LIMIT + 4, 0)), b"");
     let line = Reading::start(4).expect(&zeros[1..], fed(LINE_LIMIT - 1, Answer::More), b"");
     line.expect(b"5", fed(0, refused(BODY_TOO_LARGE, LINE_LIMIT - 1)), b"");
 }
@@ -237,7 +244,7 @@ fn framed_limit() {
     at_limit.clone().expect(b"x", fed(0, refused(MALFORMED, LIMIT)), b"");
     at_limit.expect(b"9", fed(0, refused(BODY_TOO_LARGE, LIMIT)), b"");
     let last = Reading::after(ROOM, FRAMED_LIMIT - 5);
-    last.expect(b"0\r\n\r\n", fed(5, Answer::Whole { taken: LIMIT, length: 0 }), b"");
+    last.expect(b"0\r\n\r\n", fed(5, whole(LIMIT, 0)), b"");
     Reading::after(ROOM, FRAMED_LIMIT - 4).expect(b"0\r\n\r\n", fed(4, too_long), b"");
     Reading::after(ROOM, FRAMED_LIMIT - 4).expect(b"0\r\n\r\r", fed(4, refused(MALFORMED, LIMIT)), b"");
     Reading::after(ROOM, FRAMED_LIMIT - 4).expect(HELLO, fed(4, too_long), b"h");
@@ -264,14 +271,44 @@ fn other_limits_at_the_framed_limit() {
     trailer.expect(b"\r", fed(0, refused(FRAMED_TOO_LONG, LIMIT)), b"");
 }
 
+/// "new refusal 15 at the colon, just before 14 in the order at one byte"
+#[test]
+fn forbidden_names_at_the_framed_limit() {
+    let name = b"0\r\nTrailer";
+    let colon = Reading::after(ROOM, FRAMED_LIMIT - 10).expect(name, fed(10, Answer::More), b"");
+    colon.clone().expect(b":", fed(0, refused(FORBIDDEN_FIELD, LIMIT)), b"");
+    colon.clone().expect(b"s", fed(0, refused(FRAMED_TOO_LONG, LIMIT)), b"");
+    colon.expect(b" ", fed(0, refused(MALFORMED, LIMIT)), b"");
+    let other = Reading::after(ROOM, FRAMED_LIMIT - 10);
+    other.expect(b"0\r\nTrailed:", fed(10, refused(FRAMED_TOO_LONG, LIMIT)), b"");
+    let behind = Reading::after(ROOM, FRAMED_LIMIT - 9);
+    behind.expect(b"0\r\nTrailer:", fed(9, refused(FRAMED_TOO_LONG, LIMIT)), b"");
+    let before = Reading::after(ROOM, FRAMED_LIMIT - 11);
+    before.expect(b"0\r\nTrailer:\r", fed(10, refused(FORBIDDEN_FIELD, LIMIT - 1)), b"");
+}
+
+/// A colon that is the trailer's byte 8,193 and the byte after the framed limit is 6.
+#[test]
+fn all_limits_at_one_colon() {
+    let line = [b"A:", &vec![b'b'; TRAILER_LIMIT - 11][..], b"\r\n"].concat();
+    let bytes = [b"0\r\n", &line[..], b"TRAILER"].concat();
+    let colon = Reading::after(ROOM, FRAMED_LIMIT - bytes.len() as u64);
+    let colon = colon.expect(&bytes, fed(bytes.len(), Answer::More), b"");
+    colon.clone().expect(b":", fed(0, refused(TRAILER_TOO_LONG, LIMIT)), b"");
+    colon.expect(b"\r", fed(0, refused(MALFORMED, LIMIT)), b"");
+    let start = Reading::start(ROOM).expect(&bytes, fed(bytes.len(), Answer::More), b"");
+    start.expect(b":", fed(0, refused(TRAILER_TOO_LONG, bytes.len())), b"");
+}
+
 /// With the limit before any byte of the input: what was decided before it stands, the byte behind it is refused.
 fn limit_at_each_byte(input: &[u8], room: usize, places: impl Iterator<Item = usize>) {
     let unlimited = Reading::start(room).feed(input, NO_QUOTA);
     for before in places {
         let shift = LIMIT - before;
         let expected = match unlimited.answer {
-            Answer::Whole { taken, length } if taken <= before => {
-                Answer::Whole { taken: shift + taken, length }
+            Answer::Whole { taken, length, trailer } if taken <= before => {
+                let trailer = Span { start: shift + trailer.start, ..trailer };
+                Answer::Whole { taken: shift + taken, length, trailer }
             }
             Answer::Refused(Refusal { number, place }) if place <= before => refused(number, shift + place),
             _ if before < input.len() => refused(FRAMED_TOO_LONG, LIMIT),
@@ -292,6 +329,8 @@ fn framed_limit_at_each_byte() {
     for _ in 0..ROUNDS {
         let input = any(Kind::Chunked, &mut rng);
         limit_at_each_byte(&input, rng.below(100), 0..=input.len() + 2);
+        let input = body_with_names(&mut rng);
+        limit_at_each_byte(&input, 0, 0..=input.len() + 2);
     }
     for input in at_limits(Kind::Chunked) {
         limit_at_each_byte(&input, AMPLE, input.len().saturating_sub(8)..=input.len() + 2);
@@ -301,7 +340,7 @@ fn framed_limit_at_each_byte() {
 /// The answer of the one-call reader.
 fn one_call(input: &[u8], room: usize) -> Answer {
     match decode(input, room) {
-        Decoded::Whole { taken, data } => Answer::Whole { taken, length: data.len() },
+        Decoded::Whole { taken, trailer, data } => Answer::Whole { taken, length: data.len(), trailer },
         Decoded::More => Answer::More,
         Decoded::Refused(refusal) => Answer::Refused(refusal),
     }
@@ -380,7 +419,7 @@ fn data_after_each_byte(input: &[u8], room: usize) {
 fn data_of_generated_bodies() {
     let mut rng = Rng::new(2);
     for _ in 0..ROUNDS / 10 {
-        let (input, length) = body(&mut rng);
+        let (input, length) = any_body(&mut rng);
         rooms(length).iter().for_each(|room| data_after_each_byte(&input, *room));
         data_after_each_byte(&any(Kind::Chunked, &mut rng), rng.below(60));
     }
@@ -422,9 +461,37 @@ fn bodies_at_limits_in_pieces() {
 fn short_strings_in_two_pieces() {
     for family in short(Kind::Chunked) {
         for input in every(*family) {
-            let cuttings = (0..=input.len()).map(|first| vec![first, input.len() - first]);
-            same_in_pieces(&input, 2, cuttings, NO_QUOTA);
+            same_in_pieces(&input, 2, two_pieces(input.len()), NO_QUOTA);
         }
+    }
+}
+
+fn two_pieces(length: usize) -> impl Iterator<Item = Vec<usize>> {
+    (0..=length).map(move |first| vec![first, length - first])
+}
+
+/// In two pieces, cut at every byte, and in pieces of one byte.
+fn same_cut_anywhere(input: &[u8]) {
+    same_in_pieces(input, ROOM, two_pieces(input.len()).chain([vec![1; input.len()]]), NO_QUOTA);
+}
+
+#[test]
+fn names_in_trailers_cut_anywhere() {
+    let mut rng = Rng::new(6);
+    for name in [forbidden_names(&mut rng), allowed_names()].concat() {
+        trailers_with(&name).iter().for_each(|input| same_cut_anywhere(input));
+    }
+    trailers_with_each_byte().iter().for_each(|input| same_cut_anywhere(input));
+}
+
+#[test]
+fn random_trailers_in_pieces() {
+    let mut rng = Rng::new(7);
+    for _ in 0..ROUNDS {
+        let input = body_with_names(&mut rng);
+        same_cut_anywhere(&input);
+        same_in_pieces(&input, ROOM, cuttings(input.len(), &mut rng), rng.pick(&quotas(input.len())));
+        same_cut_anywhere(&damage(input, &mut rng));
     }
 }
 

@@ -1,6 +1,6 @@
 use crate::answer::written;
 use crate::raw;
-use crate::Refusal;
+use crate::{Refusal, Span};
 
 /// The answer about a chunked body: that of [`chunked_decode`], and of [`Pieces`](crate::Pieces) after each call.
 #[derive(Clone, Copy, Debug, PartialEq, Eq, Hash)]
@@ -11,6 +11,9 @@ pub enum Decoded {
         taken: usize,
         /// How many bytes of data the body has.
         length: usize,
+        /// Where the trailer stands in the body: all its lines, without the closing CRLF. Without one, the start is
+        /// that CRLF and the length 0.
+        trailer: Span,
     },
     /// The input is the beginning of a body. [`chunked_decode`] has written nothing, [`Pieces`](crate::Pieces) the
     /// data so far.
@@ -21,9 +24,27 @@ pub enum Decoded {
 }
 
 impl Decoded {
+    /// The trailer's lines, in the input that was read; none unless the answer is `Whole`. After
+    /// [`Pieces`](crate::Pieces), which keeps none of their bytes, that input is the body from its first byte.
+    ///
+    /// ```
+    /// let body = b"5\r\nhello\r\n0\r\nETag: \"x\"\r\n\r\n";
+    /// let decoded = quizotepec::chunked_decode(body, &mut [0; 5]);
+    /// assert_eq!(decoded.trailer_in(body), Some(&b"ETag: \"x\"\r\n"[..]));
+    /// ```
+    pub fn trailer_in<'a>(&self, input: &'a [u8]) -> Option<&'a [u8]> {
+        match self {
+            Decoded::Whole { trailer, .. } => trailer.of(input),
+            _ => None,
+        }
+    }
+
     pub(crate) fn of(b: raw::QzBody) -> Decoded {
         match b.state {
-            raw::WHOLE => Decoded::Whole { taken: b.taken, length: b.length },
+            raw::WHOLE => {
+                let trailer = Span { start: b.trailer_start, length: b.trailer_length };
+                Decoded::Whole { taken: b.taken, length: b.length, trailer }
+            }
             raw::MORE => Decoded::More,
             _ => Decoded::Refused(Refusal::numbered(b.number, b.place)),
         }
@@ -33,14 +54,17 @@ impl Decoded {
 /// Reads a chunked body at the front of the input; the room is the output's length.
 ///
 /// ```
-/// use quizotepec::{chunked_decode, Decoded, Refusal};
+/// use quizotepec::{chunked_decode, Decoded, Refusal, Span};
 /// let mut out = [b'.'; 6];
 /// let body = b"5\r\nhello\r\n0\r\n\r\n";
 /// assert_eq!(chunked_decode(&body[..9], &mut out), Decoded::More);
-/// assert_eq!(chunked_decode(body, &mut out), Decoded::Whole { taken: 15, length: 5 });
+/// let trailer = Span { start: 13, length: 0 };
+/// assert_eq!(chunked_decode(body, &mut out), Decoded::Whole { taken: 15, length: 5, trailer });
 /// assert_eq!(&out, b"hello.");
 /// let refusal = Refusal::BodyTooLarge { place: 0 };
 /// assert_eq!(chunked_decode(body, &mut out[..4]), Decoded::Refused(refusal));
+/// let refusal = Refusal::ForbiddenField { place: 17 };
+/// assert_eq!(chunked_decode(b"0\r\nContent-Length: 5\r\n\r\n", &mut out), Decoded::Refused(refusal));
 /// ```
 #[must_use]
 pub fn chunked_decode(input: &[u8], out: &mut [u8]) -> Decoded {

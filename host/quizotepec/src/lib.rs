@@ -13,7 +13,7 @@
 //!
 //! let mut out = [0; 16];
 //! match chunked_decode(b"5\r\nhello\r\n0\r\n\r\n", &mut out) {
-//!     Decoded::Whole { taken, length } => assert_eq!((taken, &out[..length]), (15, &b"hello"[..])),
+//!     Decoded::Whole { taken, length, .. } => assert_eq!((taken, &out[..length]), (15, &b"hello"[..])),
 //!     Decoded::More => println!("the body goes on"),
 //!     Decoded::Refused(refusal) => println!("{refusal}"),
 //! }

@@ -15,8 +15,9 @@ pub struct Fed {
 /// A chunked body that is decoded as its bytes arrive.
 ///
 /// The data go to the lent output as they come. Its length is the room; while the output is lent, no other can take
-/// its place. Places count from the body's first byte. Once the body is whole or refused, later calls take nothing
-/// and repeat the answer. A framed body may have 1,099,511,627,776 bytes.
+/// its place. Places count from the body's first byte, that of the trailer too, whose bytes are not kept. Once the
+/// body is whole or refused, later calls take nothing and repeat the answer. A framed body may have
+/// 1,099,511,627,776 bytes.
 ///
 /// ```
 /// use quizotepec::{Decoded, Pieces};
@@ -69,13 +70,13 @@ impl<'a> Pieces<'a> {
     /// Takes the next bytes: all of the piece, fewer only where the body ends or at a refused byte.
     ///
     /// ```
-    /// use quizotepec::{Decoded, Fed, Pieces, Refusal};
+    /// use quizotepec::{Decoded, Fed, Pieces, Refusal, Span};
     ///
     /// let mut out = [b'.'; 8];
     /// let mut pieces = Pieces::new(&mut out);
-    /// let whole = Decoded::Whole { taken: 15, length: 5 };
-    /// for (place, byte) in b"5\r\nhello\r\n0\r\n\r\n".iter().enumerate() {
-    ///     let answer = if place == 14 { whole } else { Decoded::More };
+    /// let whole = Decoded::Whole { taken: 20, length: 5, trailer: Span { start: 13, length: 5 } };
+    /// for (place, byte) in b"5\r\nhello\r\n0\r\nA:b\r\n\r\n".iter().enumerate() {
+    ///     let answer = if place == 19 { whole } else { Decoded::More };
     ///     assert_eq!(pieces.feed(&[*byte]), Fed { took: 1, answer });
     /// }
     /// assert_eq!(pieces.feed(b"0"), Fed { took: 0, answer: whole });

@@ -43,6 +43,9 @@ pub const VALUE_TOO_LONG: u8 = 13;
 /// Framed body above 1,099,511,627,776 bytes (reader of pieces); place: the byte after that.
 pub const FRAMED_TOO_LONG: u8 = 14;
 
+/// Trailer field that no trailer may hold; place: its colon.
+pub const FORBIDDEN_FIELD: u8 = 15;
+
 /// Whether two inputs are equal, or match.
 #[repr(C)]
 #[derive(Clone, Copy)]
@@ -83,6 +86,10 @@ pub struct QzBody {
     pub taken: usize,
     /// how many bytes of data were written
     pub length: usize,
+    /// where the trailer stands: all its lines, without the closing CRLF; without a trailer, the place of the closing
+    /// CRLF and 0
+    pub trailer_start: usize,
+    pub trailer_length: usize,
 }
 
 /// QzOrder.order where number is 0.
@@ -269,6 +276,7 @@ pub struct QzProducts {
 pub struct QzPieces {
     pub position: u8,
     pub part: u8,
+    pub name: u8,
     pub size: usize,
     pub length: usize,
     pub total: usize,
@@ -294,7 +302,7 @@ pub struct QzFed {
 /// The version of this header; qz_library_version gives that of the library which is linked.
 pub const VERSION_MAJOR: u32 = 0;
 
-pub const VERSION_MINOR: u32 = 3;
+pub const VERSION_MINOR: u32 = 4;
 
 pub const VERSION_PATCH: u32 = 0;
 

@@ -86,6 +86,11 @@ pub enum Refusal {
         /// The byte after that many; always 1,099,511,627,776.
         place: usize,
     },
+    /// Refusal 15: a trailer with `Transfer-Encoding`, `Content-Length` or `Trailer`, letter case ignored.
+    ForbiddenField {
+        /// The colon behind the name.
+        place: usize,
+    },
     /// A number that this crate does not know: the library that is linked is another version's.
     Unknown {
         /// The number, as the library gave it.
@@ -113,6 +118,7 @@ impl Refusal {
             raw::COMMENT_TOO_DEEP => Refusal::CommentTooDeep { place },
             raw::VALUE_TOO_LONG => Refusal::ValueTooLong { place },
             raw::FRAMED_TOO_LONG => Refusal::FramedTooLong { place },
+            raw::FORBIDDEN_FIELD => Refusal::ForbiddenField { place },
             _ => Refusal::Unknown { number, place },
         }
     }
@@ -138,6 +144,7 @@ impl Refusal {
             Refusal::CommentTooDeep { .. } => raw::COMMENT_TOO_DEEP,
             Refusal::ValueTooLong { .. } => raw::VALUE_TOO_LONG,
             Refusal::FramedTooLong { .. } => raw::FRAMED_TOO_LONG,
+            Refusal::ForbiddenField { .. } => raw::FORBIDDEN_FIELD,
             Refusal::Unknown { number, .. } => number,
         }
     }
@@ -163,6 +170,7 @@ impl Refusal {
             | Refusal::CommentTooDeep { place }
             | Refusal::ValueTooLong { place }
             | Refusal::FramedTooLong { place }
+            | Refusal::ForbiddenField { place }
             | Refusal::Unknown { place, .. } => place,
         }
     }
@@ -188,6 +196,7 @@ impl Refusal {
             Refusal::CommentTooDeep { .. } => "comment nested deeper than 8",
             Refusal::ValueTooLong { .. } => "header value above 8,192 bytes",
             Refusal::FramedTooLong { .. } => "framed body above 1,099,511,627,776 bytes",
+            Refusal::ForbiddenField { .. } => "field that a trailer must not hold",
             Refusal::Unknown { .. } => "refused",
         }
     }
@@ -252,10 +261,10 @@ mod tests {
         for number in 0..=u8::MAX {
             let refusal = Refusal::numbered(number, 7);
             assert_eq!((refusal.number(), refusal.place()), (number, 7));
-            let known = (1..=14).contains(&number);
+            let known = (1..=15).contains(&number);
             assert_eq!(known, !matches!(refusal, Refusal::Unknown { .. }), "{number}");
             assert_eq!(known, refusal.meaning() != "refused", "{number}");
         }
-        assert_eq!(Refusal::numbered(15, 3).to_string(), "refused, at 3 (refusal 15)");
+        assert_eq!(Refusal::numbered(16, 3).to_string(), "refused, at 3 (refusal 16)");
     }
 }

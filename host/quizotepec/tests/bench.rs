@@ -1,7 +1,7 @@
 //! The bench program, as it is built and linked, against the independent one: on lines of every kind, cut into pieces in many ways.
 
 use independent::bench::{run, DIGIT_LIMIT};
-use independent::generate::{any, at_limits, Kind, Rng};
+use independent::generate::{allowed_names, any, at_limits, forbidden_names, trailers_with, Kind, Rng};
 use std::io::Write;
 use std::path::PathBuf;
 use std::process::{Child, Command, Output, Stdio};
@@ -66,6 +66,11 @@ fn line(rng: &mut Rng) -> Vec<u8> {
     line
 }
 
+/// Each frame in a line of its own.
+fn lines_of(frames: &[Vec<u8>], rng: &mut Rng) -> Vec<u8> {
+    frames.iter().flat_map(|frame| [hex(frame, rng), b"\n".to_vec()].concat()).collect()
+}
+
 fn input(rng: &mut Rng, count: usize) -> Vec<u8> {
     let mut text = Vec::new();
     for _ in 0..count {
@@ -110,9 +115,7 @@ fn whatever_the_pieces_are() {
 
 #[test]
 fn lines_at_the_limits() {
-    let mut rng = Rng::new(0);
-    let frames = at_limits(Kind::Chunked);
-    let mut text: Vec<u8> = frames.iter().flat_map(|frame| [hex(frame, &mut rng), b"\n".to_vec()].concat()).collect();
+    let mut text = lines_of(&at_limits(Kind::Chunked), &mut Rng::new(0));
     for length in DIGIT_LIMIT - 2..=DIGIT_LIMIT + 3 {
         text.extend(vec![b'3'; length]);
         text.push(b'\n');
@@ -121,8 +124,19 @@ fn lines_at_the_limits() {
 }
 
 #[test]
+fn names_in_trailers() {
+    let mut rng = Rng::new(4);
+    let names = [forbidden_names(&mut rng), allowed_names()].concat();
+    let frames: Vec<_> = names.iter().flat_map(|name| trailers_with(name)).collect();
+    let text = lines_of(&frames, &mut rng);
+    same(&text, &fed(vec![text.clone()]));
+}
+
+#[test]
 fn ends_of_input() {
-    for text in [&b""[..], b"\n", b"\n\n", b"3", b"30", b"\n30", b"300D0A0D0A", b"300D0A0D0A\n", b"300D0A0D0A\n\n"] {
+    for text in
+        [&b""[..], b"\n", b"\n\n", b"3", b"30", b"\n30", b"300D0A0D0A", b"300D0A0D0A\n", b"300D0A0D0A\n\n"]
+    {
         same(text, &fed(vec![text.to_vec()]));
     }
 }

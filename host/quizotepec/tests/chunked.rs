@@ -2,9 +2,10 @@
 
 mod common;
 
-use common::{lend, raw, refusal, RANDOM};
+use common::{lend, long_names, names, raw, refusal, span, whole, RANDOM};
 use independent::chunked::decode;
-use independent::generate::{any, at_limits, body, every, rooms, short, Kind, Rng};
+use independent::generate::{any, at_limits, body, cut, damage, every, rooms, short, Kind, Rng};
+use independent::generate::{body_with_names, trailers_with, trailers_with_each_byte};
 use quizotepec::{chunked_decode, Decoded, Refusal};
 
 /// How many bodies are tried at every beginning.
@@ -14,17 +15,19 @@ const AMPLE: usize = 64;
 /// Our answer and the bytes that it wrote.
 type Answer = (Decoded, Vec<u8>);
 
-/// Both decode alike: the answer, every lent byte, those around, and the fields without a meaning.
+/// Both decode alike: the answer, the trailer, every lent byte and those around.
 fn agree(input: &[u8], room: usize) -> Answer {
-    let (expected, data) = match decode(input, room) {
-        independent::chunked::Decoded::Whole { taken, data } => {
-            (Decoded::Whole { taken, length: data.len() }, data)
+    let (expected, trailer, data) = match decode(input, room) {
+        independent::chunked::Decoded::Whole { taken, trailer, data } => {
+            let whole = Decoded::Whole { taken, length: data.len(), trailer: span(trailer) };
+            (whole, Some(trailer.of(input)), data)
         }
-        independent::chunked::Decoded::More => (Decoded::More, Vec::new()),
-        independent::chunked::Decoded::Refused(r) => (Decoded::Refused(refusal(r)), Vec::new()),
+        independent::chunked::Decoded::More => (Decoded::More, None, Vec::new()),
+        independent::chunked::Decoded::Refused(r) => (Decoded::Refused(refusal(r)), None, Vec::new()),
     };
     let answer = lend(room, |out| chunked_decode(input, out), |_| data.clone());
     assert_eq!(answer, expected, "{input:?} in room {room}");
+    assert_eq!(answer.trailer_in(input), trailer, "{input:?}");
     (answer, data)
 }
 
@@ -53,6 +56,15 @@ fn stands(input: &[u8], room: usize, rng: &mut Rng) {
         let longer = [input, &any(Kind::Chunked, rng)].concat();
         assert_eq!(agree(&longer, room), last, "{longer:?} in room {room}");
     }
+    without_trailer(input, room, last);
+}
+
+/// The closing CRLF stands behind the trailer; without the trailer it closes a body of the same data.
+fn without_trailer(input: &[u8], room: usize, (answer, data): Answer) {
+    let Decoded::Whole { taken, trailer, .. } = answer else { return };
+    assert_eq!(&input[trailer.start + trailer.length..taken], b"\r\n", "{input:?}");
+    let shorter = [&input[..trailer.start], b"\r\n"].concat();
+    assert_eq!(ours(&shorter, room), (whole(shorter.len(), data.len()), data), "{input:?} in room {room}");
 }
 
 /// More room changes no answer but refusal 7.
@@ -92,8 +104,11 @@ fn every_cut_of_bodies() {
         input.extend(any(Kind::Chunked, &mut rng));
         let rooms = rooms(length);
         for room in &rooms {
-            let whole = Decoded::Whole { taken: size, length };
-            assert_eq!(agree(&input, *room).0 == whole, *room >= length, "{input:?} in room {room}");
+            let whole = match agree(&input, *room).0 {
+                Decoded::Whole { taken, length: data, .. } => (taken, data) == (size, length),
+                _ => false,
+            };
+            assert_eq!(whole, *room >= length, "{input:?} in room {room}");
             stands(&input, *room, &mut rng);
         }
         roomier(&input, &rooms);
@@ -120,6 +135,42 @@ fn every_cut_at_the_limits() {
 }
 
 #[test]
+fn every_cut_of_names() {
+    let mut rng = Rng::new(36);
+    let placed = names(&mut rng).into_iter().flat_map(|name| trailers_with(&name));
+    for input in placed.chain(trailers_with_each_byte()) {
+        stands(&input, AMPLE, &mut rng);
+        roomier(&input, &[0, 7, 8, AMPLE]);
+    }
+}
+
+#[test]
+fn names_longer_than_forbidden_ones() {
+    for input in long_names() {
+        agree(&input, 0);
+    }
+}
+
+#[test]
+fn every_cut_of_random_trailers() {
+    let mut rng = Rng::new(37);
+    for _ in 0..CUT {
+        let input = body_with_names(&mut rng);
+        stands(&input, 0, &mut rng);
+        stands(&damage(input, &mut rng), 0, &mut rng);
+    }
+}
+
+#[test]
+fn random_trailers() {
+    let mut rng = Rng::new(38);
+    for _ in 0..RANDOM {
+        let damaged = damage(body_with_names(&mut rng), &mut rng);
+        agree(&cut(damaged, &mut rng), 0);
+    }
+}
+
+#[test]
 fn random_inputs() {
     let mut rng = Rng::new(34);
     for _ in 0..RANDOM {
@@ -137,13 +188,14 @@ fn fields_without_a_meaning_are_zero() {
         let mut out = vec![0; rng.below(160)];
         // SAFETY: the pointers and the lengths are those of two vectors.
         let b = unsafe { raw::qz_chunked_decode(input.as_ptr(), input.len(), out.as_mut_ptr(), out.len()) };
-        let raw::QzBody { state, number, place, taken, length } = b;
+        let raw::QzBody { state, number, place, taken, length, trailer_start, trailer_length } = b;
+        let (refusal, counts) = ([number.into(), place], [taken, length, trailer_start, trailer_length]);
         let unused = match state {
-            0 => number as usize + place,
-            1 => number as usize + place + taken + length,
-            2 => taken + length,
-            _ => usize::MAX,
+            raw::WHOLE => refusal.to_vec(),
+            raw::MORE => [&refusal[..], &counts].concat(),
+            raw::REFUSED => counts.to_vec(),
+            _ => panic!("no state {state}"),
         };
-        assert_eq!(unused, 0, "{state}: {number} at {place}, {taken} and {length}");
+        assert!(unused.iter().all(|field| *field == 0), "{state}: {refusal:?}, {counts:?}");
     }
 }

@@ -1,18 +1,21 @@
-//! The examples of document 01 and of RFC 2616 section 3, as written there, and cases beside them.
+//! The examples of document 01 and of RFC 2616 section 3, as written there, and cases beside them; trailers by request
+//! (xii) of document 02.
 
 mod common;
 
-use common::{at, lend};
+use common::{at, lend, whole};
 use quizotepec::{
     chunked_decode, chunked_encode, date_read, date_write, delta_read, etag_read, etag_strong_match,
     etag_weak_match, language_equal, language_read, media_charset, media_equal, media_read, products_read,
     qvalue_read, qvalue_write, url_equal, url_read, version_compare, version_read, version_write, Charset,
-    Date, Decoded, EntityTag, LanguageTag, Parameter, Products, Refusal, Refused, Span, Url, Version, Which,
+    Date, Decoded, EntityTag, LanguageTag, Parameter, Pieces, Products, Refusal, Refused, Span, Url, Version,
+    Which,
 };
 use std::cmp::Ordering;
 
 const AMPLE: usize = 64;
 const LINE_LIMIT: usize = 1_024;
+const TRAILER_LIMIT: usize = 8_192;
 
 fn no<T>(number: u8, place: usize) -> Result<T, Refusal> {
     Err(at(number, place))
@@ -61,15 +64,69 @@ fn bodies() {
     let decode =
         |input: &[u8], room, data: &[u8]| lend(room, |out| chunked_decode(input, out), |_| data.to_vec());
     let refused = |number, place| Decoded::Refused(at(number, place));
-    assert_eq!(decode(b"0\r\n\r\n", 0, b""), Decoded::Whole { taken: 5, length: 0 });
+    assert_eq!(decode(b"0\r\n\r\n", 0, b""), whole(5, 0));
     assert_eq!(decode(b"1", 0, b""), refused(7, 0));
     assert_eq!(decode(b"", 0, b""), Decoded::More);
-    assert_eq!(decode(b"5\r\nhello\r\n0\r\n\r\n", AMPLE, b"hello"), Decoded::Whole { taken: 15, length: 5 });
+    assert_eq!(decode(b"5\r\nhello\r\n0\r\n\r\n", AMPLE, b"hello"), whole(15, 5));
     assert_eq!(decode(b"5\r\n", AMPLE, b""), Decoded::More);
     assert_eq!(decode(b"5\rX", AMPLE, b""), refused(1, 2));
     assert_eq!(decode(b"FFFF", 16_384, b""), refused(7, 3));
     assert_eq!(decode(&[b'0'; LINE_LIMIT], 0, b""), Decoded::More);
     assert_eq!(decode(&[b'0'; LINE_LIMIT + 1], 0, b""), refused(5, LINE_LIMIT));
+}
+
+/// The answer of both readers, which write these data.
+fn read(input: &[u8], data: &[u8]) -> Decoded {
+    let answer = lend(AMPLE, |out| chunked_decode(input, out), |_| data.to_vec());
+    let in_pieces = lend(AMPLE, |out| Pieces::new(out).feed(input).answer, |_| data.to_vec());
+    assert_eq!(in_pieces, answer, "{input:?}");
+    answer
+}
+
+#[test]
+fn trailers() {
+    let whole = |taken, length, start, lines| Decoded::Whole { taken, length, trailer: span(start, lines) };
+    assert_eq!(read(b"0\r\n\r\n", b""), whole(5, 0, 3, 0));
+    assert_eq!(read(b"0\r\nA:b\r\n\r\n", b""), whole(10, 0, 3, 5));
+    assert_eq!(read(b"5\r\nhello\r\n0\r\nETag: \"x\"\r\n\r\n", b"hello"), whole(26, 5, 13, 11));
+    assert_eq!(read(b"000;a=b\r\nA:\r\nB:c\r\n\r\nD:", b""), whole(20, 0, 9, 9));
+    // What looks like a trailer inside data is data.
+    assert_eq!(read(b"7\r\n0\r\nA:\r\n\r\n0\r\nB:\r\n\r\n", b"0\r\nA:\r\n"), whole(21, 7, 15, 4));
+    assert_eq!(read(b"8\r\nTrailer:\r\n0\r\n\r\n", b"Trailer:"), whole(18, 8, 16, 0));
+}
+
+/// "These names, letter case ignored, are new refusal 15 at the colon".
+#[test]
+fn names_in_trailers() {
+    let refused = |number, place| Decoded::Refused(at(number, place));
+    let whole = |taken, lines| Decoded::Whole { taken, length: 0, trailer: span(3, lines) };
+    for (lines, answer) in [
+        ("trailer:", refused(15, 10)),
+        ("Trailer", Decoded::More),
+        ("Trailer :", refused(1, 10)),
+        ("Trailer\r", refused(1, 10)),
+        ("TRANSFER-encoding: x", refused(15, 20)),
+        ("content-LENGTH: 5\r\n\r\n", refused(15, 17)),
+        ("A:b\r\nTrailer:\r\nTrailer:\r\n\r\n", refused(15, 15)),
+        ("Trailers:\r\nTrailer:", refused(15, 21)),
+        ("Content-Length2: 1\r\n\r\n", whole(25, 20)),
+        ("Content-Lengt:\r\n\r\n", whole(21, 16)),
+        ("X-Trailer:\r\n\r\n", whole(17, 12)),
+        ("A:Trailer:\r\n\r\n", whole(17, 12)),
+        ("\r\nTrailer:", whole(5, 0)),
+    ] {
+        assert_eq!(read(format!("0\r\n{lines}").as_bytes(), b""), answer, "{lines:?}");
+    }
+}
+
+/// At one byte 6 comes before 15: the name's colon is the trailer's byte 8,192 or 8,193, counted from 1.
+#[test]
+fn names_at_the_trailer_limit() {
+    for (byte, number) in [(TRAILER_LIMIT, 15), (TRAILER_LIMIT + 1, 6)] {
+        let value = "b".repeat(byte - "A:\r\nTrailer:".len());
+        let input = format!("0\r\nA:{value}\r\nTrailer:");
+        assert_eq!(read(input.as_bytes(), b""), Decoded::Refused(at(number, 3 + byte - 1)));
+    }
 }
 
 #[test]

@@ -1,18 +1,19 @@
-//! The reader in pieces against the independent one and the one-call reader: cuttings, quotas, invalid calls between, the
-//! limit of refusal 14, and states that no calls lead to.
+//! The reader in pieces against the independent one and the one-call reader: cuttings, also inside the names of a
+//! trailer, quotas, invalid calls between, the limit of refusal 14, and states that no calls lead to.
 
 mod common;
 
-use common::{at, lend, raw, refusal, Lent, RANDOM};
+use common::{at, lend, long_names, names, raw, refusal, span, whole, Lent, RANDOM};
 use independent::chunked::{encode, LINE_LIMIT, TRAILER_LIMIT};
-use independent::generate::{any, at_limits, body, every, rooms, short, Kind, Rng};
+use independent::generate::{any, any_body, at_limits, damage, every, rooms, short, Kind, Rng};
+use independent::generate::{body_with_names, trailers_with, trailers_with_each_byte};
 use independent::generate::{cuttings, every_cutting, pieces_of, quotas};
 use independent::pieces::{Pieces as Theirs, FRAMED_LIMIT};
 use independent::plain::Answer;
-use quizotepec::{chunked_decode, Decoded, Fed, Pieces, Refusal};
+use quizotepec::{chunked_decode, Decoded, Fed, Pieces, Refusal, Span};
 
 const HELLO: &[u8] = b"5\r\nhello\r\n0\r\n\r\n";
-const WHOLE: Decoded = Decoded::Whole { taken: 15, length: 5 };
+const WHOLE: Decoded = whole(15, 5);
 const OUT_OF_RANGE: Fed = Fed { took: 0, answer: Decoded::Refused(Refusal::OutOfRange { place: 0 }) };
 const ROOM: usize = 8;
 const AMPLE: usize = 4_096;
@@ -25,7 +26,7 @@ const LONG: usize = 20_000;
 
 fn decoded(answer: Answer) -> Decoded {
     match answer {
-        Answer::Whole { taken, length } => Decoded::Whole { taken, length },
+        Answer::Whole { taken, length, trailer } => Decoded::Whole { taken, length, trailer: span(trailer) },
         Answer::More => Decoded::More,
         Answer::Refused(r) => Decoded::Refused(refusal(r)),
     }
@@ -33,17 +34,19 @@ fn decoded(answer: Answer) -> Decoded {
 
 /// Fields without a meaning are zero.
 fn answer_of(b: raw::QzBody) -> Decoded {
-    match (b.state, b.number, b.place, b.taken, b.length) {
-        (raw::WHOLE, 0, 0, taken, length) => Decoded::Whole { taken, length },
-        (raw::MORE, 0, 0, 0, 0) => Decoded::More,
-        (raw::REFUSED, number, place, 0, 0) => Decoded::Refused(at(number, place)),
+    let trailer = Span { start: b.trailer_start, length: b.trailer_length };
+    match (b.state, b.number, b.place, [b.taken, b.length, trailer.start, trailer.length]) {
+        (raw::WHOLE, 0, 0, _) => Decoded::Whole { taken: b.taken, length: b.length, trailer },
+        (raw::MORE, 0, 0, [0, 0, 0, 0]) => Decoded::More,
+        (raw::REFUSED, number, place, [0, 0, 0, 0]) => Decoded::Refused(at(number, place)),
         fields => panic!("{fields:?}"),
     }
 }
 
-fn fields(state: raw::QzPieces) -> [usize; 8] {
-    let raw::QzPieces { position, part, size, length, total, taken, room, refused } = state;
-    [position.into(), part.into(), size, length, total, taken, room, refused]
+fn fields(state: raw::QzPieces) -> [usize; 9] {
+    let raw::QzPieces { position, part, name, size, length, total, taken, room, refused } = state;
+    let [position, part, name] = [position, part, name].map(usize::from);
+    [position, part, name, size, length, total, taken, room, refused]
 }
 
 /// One call as C makes it. The piece lies between canaries, and beyond the quota it holds other bytes.
@@ -72,7 +75,7 @@ impl Reading {
     fn start(room: usize) -> Self {
         // SAFETY: it takes a number.
         let state = unsafe { raw::qz_pieces_start(room) };
-        assert_eq!(fields(state), [0, 0, 0, 0, 0, 0, room, 0]);
+        assert_eq!(fields(state), [0, 0, 0, 0, 0, 0, 0, 0, room, 0]);
         Reading { state, out: Lent::new(room), theirs: Theirs::start(room), their_out: Lent::new(room) }
     }
 
@@ -219,7 +222,7 @@ fn data_after_each_byte(input: &[u8], room: usize) {
 }
 
 /// Good and damaged ones of every part of a body.
-const SHORT_BODIES: [&[u8]; 14] = [
+const SHORT_BODIES: [&[u8]; 17] = [
     HELLO,
     b"0\r\n\r\n",
     b"",
@@ -234,6 +237,9 @@ const SHORT_BODIES: [&[u8]; 14] = [
     b"0\r\nA\r\n",
     b"0\r\nA:b\r\rC:",
     b"3;a=\"\x80\\\x80\"",
+    b"0\r\ntRAILER:",
+    b"0\r\nTrailers:\r",
+    b"0\r\nT:\r\nTrailer:",
 ];
 
 #[test]
@@ -260,11 +266,57 @@ fn every_cutting_of_damaged_bodies() {
     }
 }
 
+/// The cuttings into two pieces, one of which may be empty.
+fn two_pieces(length: usize) -> impl Iterator<Item = Vec<usize>> {
+    (0..=length).map(move |first| vec![first, length - first])
+}
+
 #[test]
 fn short_strings_in_two_pieces() {
     for input in short(Kind::Chunked).iter().flat_map(|family| every(*family)) {
-        let cuttings = (0..=input.len()).map(|first| vec![first, input.len() - first]);
-        same_in_pieces(&input, 2, cuttings, NO_QUOTA);
+        same_in_pieces(&input, 2, two_pieces(input.len()), NO_QUOTA);
+    }
+}
+
+/// In two pieces, cut at every byte, and in pieces of one byte.
+fn same_cut_anywhere(input: &[u8]) {
+    same_in_pieces(input, ROOM, two_pieces(input.len()).chain([vec![1; input.len()]]), NO_QUOTA);
+}
+
+#[test]
+fn names_cut_anywhere() {
+    let placed = names(&mut Rng::new(59)).into_iter().flat_map(|name| trailers_with(&name));
+    for input in placed.chain(trailers_with_each_byte()) {
+        same_cut_anywhere(&input);
+    }
+}
+
+#[test]
+fn names_longer_than_forbidden_ones() {
+    let mut rng = Rng::new(60);
+    for input in long_names() {
+        same_in_pieces(&input, ROOM, few_cuttings(input.len(), &mut rng), NO_QUOTA);
+    }
+}
+
+#[test]
+fn names_by_each_quota() {
+    for name in names(&mut Rng::new(61)) {
+        let input = [b"0\r\nA:b\r\n", &name[..], b":\r\n\r\n"].concat();
+        let cuttings = [vec![input.len()], vec![7, input.len() - 7]];
+        (1..=input.len()).for_each(|quota| same_in_pieces(&input, ROOM, cuttings.clone(), quota));
+    }
+}
+
+#[test]
+fn random_trailers() {
+    let mut rng = Rng::new(62);
+    for _ in 0..CUT {
+        let input = body_with_names(&mut rng);
+        same_cut_anywhere(&input);
+        let cut = cuttings(input.len(), &mut rng);
+        same_in_pieces(&input, ROOM, cut, rng.pick(&quotas(input.len())));
+        same_cut_anywhere(&damage(input, &mut rng));
     }
 }
 
@@ -272,7 +324,7 @@ fn short_strings_in_two_pieces() {
 fn random_cuttings() {
     let mut rng = Rng::new(51);
     for _ in 0..CUT {
-        let (input, length) = body(&mut rng);
+        let (input, length) = any_body(&mut rng);
         let cut = cuttings(input.len(), &mut rng);
         let (room, quota) = (rng.pick(&rooms(length)), rng.pick(&quotas(input.len())));
         same_in_pieces(&input, room, cut, quota);
@@ -424,18 +476,44 @@ fn limit_at_each_byte(input: &[u8], room: usize, places: impl Iterator<Item = us
 #[test]
 fn framed_limit() {
     let refused = |number| Decoded::Refused(at(number, LIMIT));
+    let with_trailer =
+        Decoded::Whole { taken: LIMIT, length: 0, trailer: Span { start: LIMIT - 7, length: 5 } };
     for (before, input, took, answer) in [
         (0, &b"5"[..], 0, refused(14)),
         (0, b"x", 0, refused(1)),
         (0, b"9", 0, refused(7)),
         (0, b"", 0, Decoded::More),
-        (5, b"0\r\n\r\n", 5, Decoded::Whole { taken: LIMIT, length: 0 }),
+        (5, b"0\r\n\r\n", 5, whole(LIMIT, 0)),
         (4, b"0\r\n\r\n", 4, refused(14)),
         (4, b"0\r\n\r\r", 4, refused(1)),
         (6, HELLO, 6, refused(14)),
+        (10, b"0\r\nA:b\r\n\r\n", 10, with_trailer),
+        (9, b"0\r\nA:b\r\n\r\n", 9, refused(14)),
+        (10, b"0\r\nTrailer:", 10, refused(15)),
+        (10, b"0\r\nTrailer ", 10, refused(1)),
+        (10, b"0\r\nTrailers", 10, refused(14)),
+        (10, b"0\r\nTrailed:", 10, refused(14)),
+        (9, b"0\r\nTrailer:", 9, refused(14)),
+        (11, b"0\r\nTrailer:\r", 10, Decoded::Refused(at(15, LIMIT - 1))),
     ] {
         let mut reading = Reading::after(ROOM, LIMIT - before);
         assert_eq!(reading.feed(input, NO_QUOTA), Fed { took, answer }, "{input:?}");
+        reading.stays(answer);
+    }
+}
+
+/// A name's colon is the byte 8,192 or 8,193 of the trailer, and may be the byte after the framed limit too.
+#[test]
+fn all_limits_at_one_colon() {
+    for (byte, place, number) in
+        [(8_192, 8_194, 15), (8_193, 8_195, 6), (8_192, LIMIT, 15), (8_193, LIMIT, 6)]
+    {
+        let value = "b".repeat(byte - "A:\r\nTrailer:".len());
+        let input = format!("0\r\nA:{value}\r\nTrailer:");
+        let took = input.len() - 1;
+        let mut reading = Reading::after(ROOM, place - took);
+        let answer = Decoded::Refused(at(number, place));
+        assert_eq!(reading.feed(input.as_bytes(), NO_QUOTA), Fed { took, answer });
         reading.stays(answer);
     }
 }
@@ -446,6 +524,8 @@ fn framed_limit_at_each_byte() {
     for _ in 0..CUT {
         let input = any(Kind::Chunked, &mut rng);
         limit_at_each_byte(&input, rng.below(100), 0..=input.len() + 2, &mut rng);
+        let input = body_with_names(&mut rng);
+        limit_at_each_byte(&input, 0, 0..=input.len() + 2, &mut rng);
     }
     for input in at_limits(Kind::Chunked) {
         limit_at_each_byte(&input, AMPLE, input.len().saturating_sub(4)..=input.len() + 1, &mut rng);
@@ -462,10 +542,19 @@ fn some_number(room: usize, rng: &mut Rng) -> usize {
     }
 }
 
+/// Any body, or one with names in its trailer.
+fn some_input(rng: &mut Rng) -> Vec<u8> {
+    if rng.once_in(3) {
+        damage(body_with_names(rng), rng)
+    } else {
+        any(Kind::Chunked, rng)
+    }
+}
+
 /// Random numbers in some fields of a state that calls have led to, or in all.
 fn some_state(room: usize, rng: &mut Rng) -> raw::QzPieces {
     let mut reading = Reading::start(room);
-    let _any = reading.feed(&any(Kind::Chunked, rng), 1 + rng.below(40));
+    let _any = reading.feed(&some_input(rng), 1 + rng.below(40));
     let mut numbers = fields(reading.state);
     let often = rng.pick(&[1, 2, 8]);
     for number in &mut numbers {
@@ -473,8 +562,9 @@ fn some_state(room: usize, rng: &mut Rng) -> raw::QzPieces {
             *number = some_number(room, rng);
         }
     }
-    let [position, part, size, length, total, taken, room, refused] = numbers;
-    raw::QzPieces { position: position as u8, part: part as u8, size, length, total, taken, room, refused }
+    let [position, part, name, size, length, total, taken, room, refused] = numbers;
+    let [position, part, name] = [position, part, name].map(|number| number as u8);
+    raw::QzPieces { position, part, name, size, length, total, taken, room, refused }
 }
 
 /// A call on any state gives a listed answer and writes inside the lent bytes alone; an invalid one changes nothing.
@@ -493,10 +583,14 @@ fn is_safe(mut state: raw::QzPieces, piece: &[u8], quota: usize, length: usize) 
     assert!(fed.took <= quota.min(piece.len()), "{}", about());
     assert_eq!((state.taken, state.room), (taken + fed.took, room), "{}", about());
     match fed.answer {
-        Decoded::Whole { taken, length } => assert!(taken == state.taken && length <= room, "{}", about()),
+        Decoded::Whole { taken, length, trailer } => {
+            assert!(taken == state.taken && length <= room, "{}", about());
+            assert!(trailer.start <= taken && trailer.length <= TRAILER_LIMIT, "{trailer:?}, {}", about())
+        }
         Decoded::More => assert_eq!(fed.took, quota.min(piece.len()), "{}", about()),
         Decoded::Refused(r) => {
-            assert!([1, 5, 6, 7, 14].contains(&r.number()) && r.place() == state.taken, "{r:?}, {}", about())
+            let listed = [1, 5, 6, 7, 14, 15].contains(&r.number());
+            assert!(listed && r.place() == state.taken, "{r:?}, {}", about())
         }
     }
     assert_ne!(call(&mut state, piece, 1, out.bytes()), OUT_OF_RANGE, "{}", about());
@@ -510,7 +604,7 @@ fn states_of_random_numbers() {
     for _ in 0..RANDOM {
         let room = rng.below(60);
         let state = some_state(room, &mut rng);
-        let piece = any(Kind::Chunked, &mut rng);
+        let piece = some_input(&mut rng);
         let quota = if rng.once_in(20) { 0 } else { rng.pick(&quotas(piece.len())) };
         let length = if state.room <= AMPLE { state.room } else { room };
         valid += usize::from(is_safe(state, &piece, quota, length));

@@ -6,8 +6,8 @@ use common::at;
 use quizotepec::{delta_read, language_equal, Refusal, Refused, Which};
 use std::error::Error;
 
-/// The table of document 01, in its order, and 14 of document 02.
-const MEANINGS: [&str; 14] = [
+/// The table of document 01, in its order, and 14 and 15 of document 02.
+const MEANINGS: [&str; 15] = [
     "malformed",
     "number above its limit",
     "no such date or time",
@@ -22,6 +22,7 @@ const MEANINGS: [&str; 14] = [
     "comment nested deeper than 8",
     "header value above 8,192 bytes",
     "framed body above 1,099,511,627,776 bytes",
+    "field that a trailer must not hold",
 ];
 
 #[test]

@@ -2,14 +2,13 @@
 
 mod common;
 
-use common::{raw, refusal, refused, RANDOM};
+use common::{raw, refusal, refused, span, RANDOM};
 use independent::generate::{any, at_limits, every, pair, short, valid, Kind, Rng, Short};
 use independent::{date, delta, etag, language, media, products, qvalue, url, version};
 use quizotepec::{
     date_read, delta_read, etag_read, etag_strong_match, etag_weak_match, language_equal, language_read,
     media_charset, media_equal, media_read, products_read, qvalue_read, url_equal, url_read, version_compare,
-    version_read, Charset, Date, EntityTag, LanguageTag, Parameter, Products, Refusal, Refused, Span, Url,
-    Version,
+    version_read, Charset, Date, EntityTag, LanguageTag, Parameter, Products, Refusal, Refused, Url, Version,
 };
 use std::fmt::Debug;
 
@@ -107,10 +106,6 @@ fn date_agrees(input: &[u8]) {
     let d = unsafe { raw::qz_date_read(input.as_ptr(), input.len()) };
     let fields = [d.year, d.month, d.day, d.hour, d.minute, d.second].map(u64::from);
     unused(input, d.number, d.place, &[&[d.seconds as u64], &fields[..]].concat());
-}
-
-fn span(s: independent::Span) -> Span {
-    Span { start: s.start, length: s.length }
 }
 
 const UNUSED: raw::QzParameter =

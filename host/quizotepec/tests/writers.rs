@@ -2,12 +2,12 @@
 
 mod common;
 
-use common::{at, lend, writes, RANDOM};
+use common::{at, lend, whole, writes, RANDOM};
 use independent::date::{EARLIEST, LATEST, LENGTH};
 use independent::generate::{frame, instant, numbers, Rng};
 use independent::number::{ARGUMENT_OUT_OF_RANGE, BODY_TOO_LARGE, OUTPUT_TOO_SHORT};
 use independent::{chunked, date, qvalue, version};
-use quizotepec::{chunked_encode, date_write, qvalue_write, version_write, Version};
+use quizotepec::{chunked_decode, chunked_encode, date_write, qvalue_write, version_write, Pieces, Version};
 
 /// The longest version has 16 bytes, the longest qvalue 5.
 const VERSION_ROOM: usize = 20;
@@ -131,5 +131,22 @@ fn random_frames() {
     for _ in 0..RANDOM {
         let (body, chunk_len, room) = frame(&mut rng);
         frame_agrees(&body, chunk_len, room);
+    }
+}
+
+/// Both readers give the body back, and no trailer before the closing CRLF.
+#[test]
+fn frames_read_back() {
+    let mut rng = Rng::new(24);
+    for _ in 0..RANDOM / 10 {
+        let (body, chunk_len, _) = frame(&mut rng);
+        let chunk_len = chunk_len.max(1);
+        let needed = chunked::encode(&body, chunk_len, usize::MAX).expect("a frame").len();
+        let mut frame = vec![0; needed];
+        assert_eq!(chunked_encode(&body, chunk_len, &mut frame), Ok(needed));
+        let read = |out: &mut [u8]| chunked_decode(&frame, out);
+        assert_eq!(lend(body.len(), read, |_| body.clone()), whole(needed, body.len()));
+        let read = |out: &mut [u8]| Pieces::new(out).feed(&frame).answer;
+        assert_eq!(lend(body.len(), read, |_| body.clone()), whole(needed, body.len()));
     }
 }

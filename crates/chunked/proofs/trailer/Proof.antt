@@ -10,7 +10,8 @@ use Rattle.framing.specs.helpers.Machine.{trailer}
 use Rattle.framing.specs.declared.State.the-variants.{Trail}
 use Rattle.chunked.specs.helpers.Passes.{At}
 use Rattle.chunked.proofs.Passes.{at-more, last-more, last-refused}
-use Rattle.chunked.proofs.Lines.{Into, trail-start, trail-closed, trail-into, trail-wrong, trail-long, trail-on}
+use Rattle.chunked.proofs.Lines.{Into, trail-start, trail-closed, trail-into, trail-wrong, trail-long}
+use Rattle.chunked.proofs.Lines.{trail-forbidden, trail-on}
 use Rattle.chunked.proofs.trailer.Statement.{statement}
 use Rattle.chunked.proofs.trailer.Tie as tie
 
@@ -25,8 +26,10 @@ loop-holds c = (omega arith, trail-start (c .before .pre))
 
 close-requires : tie.Need-close-requires Inv-loop μ-loop
 close-requires c κs =
-    let l = c .before .before .before in
-    trail-closed (l .before .loop .inv .1) (l .loop-test .taken) (sym (c .before .closes .ensures) ∙ c .if1 .taken)
+    let l = c .before .before .before in (
+      l .before .loop .inv .0,
+      trail-closed (l .before .loop .inv .1) (l .loop-test .taken) (sym (c .before .closes .ensures) ∙ c .if1 .taken),
+    )
 
 -- ## What the ways out behind the step know
 into : (c : tie.After-trail-step Inv-loop μ-loop)
@@ -51,15 +54,23 @@ returns-3 c =
     let v = c .before .before in
     last-refused (c .refuse2 .ensures) (trail-long (into (v .before .before)) (alive v) (c .before .if3 .taken))
 
+returns-4 : tie.Need-returns-4 Inv-loop μ-loop
+returns-4 c =
+    let f = c .before .before in
+    let v = f .before .before in
+    last-refused (c .refuse3 .ensures)
+    (trail-forbidden (into (v .before .before)) (alive v) (f .before .if3 .left) (sym (f .is-forbidden .ensures) ∙ c .before .if4 .taken))
+
 loop-again : tie.Need-loop-again Inv-loop μ-loop
 loop-again c =
-    let v = c .before in (
+    let f = c .before in
+    let v = f .before .before in (
       omega arith,
-      trail-on (into (v .before .before)) (alive v) (c .if3 .left),
+      trail-on (into (v .before .before)) (alive v) (f .before .if3 .left) (sym (f .is-forbidden .ensures) ∙ c .if4 .left),
     )
 
-returns-4 : tie.Need-returns-4 Inv-loop μ-loop
-returns-4 c = last-more (at-more (c .before .loop .inv .1) (c .loop-test .left))
+returns-5 : tie.Need-returns-5 Inv-loop μ-loop
+returns-5 c = last-more (at-more (c .before .loop .inv .1) (c .loop-test .left))
 
 pub trailer-spec : {M : Type 1} → statement M
 trailer-spec =
@@ -70,7 +81,6 @@ trailer-spec =
     loop-holds
     (λ c. search needs)
     (λ c κs. search needs)
-    (λ c. search needs)
     close-requires
     (λ c. search needs)
     (λ c κs. search needs)
@@ -80,7 +90,10 @@ trailer-spec =
     (λ c. search needs)
     (λ c κs. search needs)
     returns-3
+    (λ c κs. search needs)
+    (λ c κs. search needs)
+    returns-4
     (λ c. search needs)
     (λ c. search needs)
     loop-again
-    returns-4)
+    returns-5)

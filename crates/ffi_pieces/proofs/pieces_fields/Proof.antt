@@ -12,6 +12,7 @@ abbrev numbered : Pieces → Numbers → QzPieces
 numbered s n = record {
   position = n .position;
   part = n .part;
+  name = n .name;
   size = n .size;
   length = n .length;
   total = n .total;

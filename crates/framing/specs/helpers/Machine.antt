@@ -2,16 +2,16 @@
 use mathlib.Core.Bool.{Bool, true, false, _&&_, cond}
 use mathlib.Core.List.{List, [], _∷_}
 use mathlib.Core.Option.{Option, none, some}
-use Prim.Native.Nat.{ℕ, zero, suc, _+_, _*_}
+use Prim.Native.Nat.{ℕ, zero, suc, _+_, _-_, _*_}
 use Prim.Native.Char.{code}
 use lib.Dec.{ltb, eqb}
-use Rattle.grammar.specs.Refusals.{LINE_TOO_LONG, TRAILER_TOO_LONG, BODY_TOO_LARGE}
+use Rattle.grammar.specs.Refusals.{LINE_TOO_LONG, TRAILER_TOO_LONG, BODY_TOO_LARGE, FORBIDDEN_FIELD}
 use Rattle.octets.specs.Bytes.{octet?, hex?, hex-value}
 use Rattle.framing.specs.Grammar.{LINE_LIMIT, TRAILER_LIMIT}
 use Rattle.framing.specs.helpers.Scan.{Machine}
 -- the two parts of a body that have a machine of their own; all else takes them by these names
 pub use Rattle.framing.specs.helpers.Extensions.{extensions}
-pub use Rattle.framing.specs.helpers.Trailer.{TrailerAt, trailer}
+pub use Rattle.framing.specs.helpers.Trailer.{TrailerAt, trailer, atForbidden}
 use Rattle.framing.specs.declared.ExtPos.the-variants as ExtPos
 use Rattle.framing.specs.declared.LinePos.{LinePos}
 use Rattle.framing.specs.declared.LinePos.the-variants.{First, Size, Ext}
@@ -60,9 +60,9 @@ step (Data zero t) b = cond (octet? b) (DataCr t) Dead
 step (Data (suc m) t) b = cond (octet? b) (Data m t) Dead
 step (DataCr t) b = cond (eqb b (code "\r")) (DataLf t) Dead
 step (DataLf t) b = cond (eqb b (code "\n")) (Line First 0 t) Dead
-step (Trail p k t) b = cond (trailer .ends p && eqb b (code "\r")) (EndLf t) (Trail (trailer .next p b) (suc k) t)
-step (EndLf t) b = cond (eqb b (code "\n")) (Done t) Dead
-step (Done t) b = Dead
+step (Trail p k t) b = cond (trailer .ends p && eqb b (code "\r")) (EndLf t k) (Trail (trailer .next p b) (suc k) t)
+step (EndLf t n) b = cond (eqb b (code "\n")) (Done t n) Dead
+step (Done t n) b = Dead
 step Dead b = Dead
 
 -- the data that a byte is
@@ -73,8 +73,8 @@ emit (Data m t) b = b ∷ []
 emit (DataCr t) b = []
 emit (DataLf t) b = []
 emit (Trail p k t) b = []
-emit (EndLf t) b = []
-emit (Done t) b = []
+emit (EndLf t n) b = []
+emit (Done t n) b = []
 emit Dead b = []
 
 unfoldable pub live : State → Bool
@@ -84,13 +84,14 @@ live (Data m t) = true
 live (DataCr t) = true
 live (DataLf t) = true
 live (Trail p k t) = trailer .alive p
-live (EndLf t) = true
-live (Done t) = true
+live (EndLf t n) = true
+live (Done t n) = true
 live Dead = false
 
--- what the end of a body knows of it: the length of its data
+-- what the end of a body knows of it: the length of its data, and that of its trailer
 pub record End : Type 0 where
   pub length : ℕ
+  pub trailer : ℕ
 
 unfoldable pub done : State → Option End
 done (Line p k t) = none
@@ -99,12 +100,17 @@ done (Data m t) = none
 done (DataCr t) = none
 done (DataLf t) = none
 done (Trail p k t) = none
-done (EndLf t) = none
-done (Done t) = some (record { length = t })
+done (EndLf t n) = none
+done (Done t n) = some (record { length = t; trailer = n })
 done Dead = none
 
 abbrev pub tell : ℕ → End → Whole
-tell n e = record { taken = n; length = e .length }
+tell n e = record {
+  taken = n;
+  length = e .length;
+  «trailer_start» = n - (e .trailer + 2);
+  «trailer_length» = e .trailer;
+}
 
 -- ## Limits: whether the byte that led to a state broke one
 
@@ -115,8 +121,8 @@ longLine (Data m t) = false
 longLine (DataCr t) = false
 longLine (DataLf t) = false
 longLine (Trail p k t) = false
-longLine (EndLf t) = false
-longLine (Done t) = false
+longLine (EndLf t n) = false
+longLine (Done t n) = false
 longLine Dead = false
 
 -- a test of where the trailer stands and of its bytes so far
@@ -127,8 +133,8 @@ inTrailer test (Data m t) = false
 inTrailer test (DataCr t) = false
 inTrailer test (DataLf t) = false
 inTrailer test (Trail p k t) = test p k
-inTrailer test (EndLf t) = false
-inTrailer test (Done t) = false
+inTrailer test (EndLf t n) = false
+inTrailer test (Done t n) = false
 inTrailer test Dead = false
 
 abbrev pub pastTrailer : TrailerAt → ℕ → Bool
@@ -136,6 +142,9 @@ pastTrailer p k = eqb k (suc TRAILER_LIMIT)
 
 abbrev pub longTrailer : State → Bool
 longTrailer = inTrailer pastTrailer
+
+abbrev pub forbiddenField : State → Bool
+forbiddenField = inTrailer (λ p k. atForbidden p)
 
 -- finished chunks and the size read so far pass the room
 unfoldable pub pastRoom : ℕ → LinePos → ℕ → Bool
@@ -150,8 +159,8 @@ noRoom room (Data m t) = false
 noRoom room (DataCr t) = false
 noRoom room (DataLf t) = false
 noRoom room (Trail p k t) = false
-noRoom room (EndLf t) = false
-noRoom room (Done t) = false
+noRoom room (EndLf t n) = false
+noRoom room (Done t n) = false
 noRoom room Dead = false
 
 -- the limits that no room changes, each with its test
@@ -159,6 +168,7 @@ abbrev pub tests : List (ℕ × (State → Bool))
 tests =
     (LINE_TOO_LONG, longLine)
     ∷ (TRAILER_TOO_LONG, longTrailer)
+    ∷ (FORBIDDEN_FIELD, forbiddenField)
     ∷ []
 
 -- the test of that number

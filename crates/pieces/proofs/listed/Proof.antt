@@ -22,11 +22,16 @@ returns-5 : tie.Need-returns-5
 returns-5 c = sym (ap listed (c .if5 .taken))
 
 returns-6 : tie.Need-returns-6
-returns-6 c =
-    let d = c .before in
+returns-6 c = sym (ap listed (c .if6 .taken))
+
+returns-7 : tie.Need-returns-7
+returns-7 c =
+    let b = c .before in
+    let d = b .before in
     let e = d .before in
     let f = e .before in
-    sym (unlisted (f .before .before .args .number) (f .before .if1 .left) (f .if2 .left) (e .if3 .left) (d .if4 .left) (c .if5 .left))
+    sym (unlisted (f .before .before .args .number) (f .before .if1 .left) (f .if2 .left) (e .if3 .left) (d .if4 .left) (b .if5 .left)
+    (c .if6 .left))
 
 pub listed-spec : {M : Type 1} → statement M
 listed-spec =
@@ -42,4 +47,6 @@ listed-spec =
     (λ c. search needs)
     returns-5
     (λ c. search needs)
-    returns-6)
+    returns-6
+    (λ c. search needs)
+    returns-7)

@@ -36,7 +36,15 @@ returns-3 c =
     let a = c .before .before .before .before .before in
     let p = c .before .before .before .position2 in
     c .as-numbers3 .ensures
-    ∙ ap (λ (n : ℕ). record { position = 0; part = n; size = p .given .0 .0; length = a .args .length; total = a .args .before }) (c .before .ext-number .ensures)
+    ∙ ap (λ (n : ℕ). record {
+      position = 0;
+      part = n;
+      name = 0;
+      size = p .given .0 .0;
+      length = a .args .length;
+      total = a .args .before;
+    })
+    (c .before .ext-number .ensures)
     ∙ sym (ap (in-line a) (p .given .1))
 
 pub line-numbers-spec : {M : Type 1} → statement M

@@ -2,7 +2,6 @@
 use borrow.Author.Needs.{needs}
 use mathlib.Core.Path.{_≡_, refl, sym, ap, _∙_}
 use mathlib.Core.List.{[], _∷_}
-use Prim.Native.Nat.{ℕ}
 use denote.Enum.Declared.{tagOf}
 use types.Run.{OneOf, miss}
 use Rattle.framing.specs.declared.State.{State}
@@ -19,57 +18,46 @@ is-dead (Data m t) h = absurd (miss (8 ∷ []) 2 tt h)
 is-dead (DataCr t) h = absurd (miss (8 ∷ []) 3 tt h)
 is-dead (DataLf t) h = absurd (miss (8 ∷ []) 4 tt h)
 is-dead (Trail l k t) h = absurd (miss (8 ∷ []) 5 tt h)
-is-dead (EndLf t) h = absurd (miss (8 ∷ []) 6 tt h)
-is-dead (Done t) h = absurd (miss (8 ∷ []) 7 tt h)
+is-dead (EndLf t n) h = absurd (miss (8 ∷ []) 6 tt h)
+is-dead (Done t n) h = absurd (miss (8 ∷ []) 7 tt h)
 is-dead Dead h = refl
 
 returns : tie.Need-returns
 returns c =
-    let a = c .before .before .before .before in
-    c .line-numbers .ensures ∙ sym (ap (numbers-of) (c .before .before .place .given .1))
+    c .line-numbers .ensures ∙ sym (ap numbers-of (c .before .before .place .given .1))
 
 returns-2 : tie.Need-returns-2
 returns-2 c =
-    let a = c .before .before .before .before in
-    c .as-numbers .ensures ∙ sym (ap (numbers-of) (c .before .before .place2 .given .1))
+    c .as-numbers .ensures ∙ sym (ap numbers-of (c .before .before .place2 .given .1))
 
 returns-3 : tie.Need-returns-3
 returns-3 c =
-    let a = c .before .before .before .before in
-    c .as-numbers2 .ensures ∙ sym (ap (numbers-of) (c .before .before .place3 .given .1))
+    c .as-numbers2 .ensures ∙ sym (ap numbers-of (c .before .before .place3 .given .1))
 
 returns-4 : tie.Need-returns-4
 returns-4 c =
-    let a = c .before .before .before .before in
-    c .as-numbers3 .ensures ∙ sym (ap (numbers-of) (c .before .before .place4 .given .1))
+    c .as-numbers3 .ensures ∙ sym (ap numbers-of (c .before .before .place4 .given .1))
 
 returns-5 : tie.Need-returns-5
 returns-5 c =
-    let a = c .before .before .before .before in
-    c .as-numbers4 .ensures ∙ sym (ap (numbers-of) (c .before .before .place5 .given .1))
+    c .as-numbers4 .ensures ∙ sym (ap numbers-of (c .before .before .place5 .given .1))
 
 returns-6 : tie.Need-returns-6
 returns-6 c =
-    let a = c .before .before .before .before .before in
-    let p = c .before .before .before .place6 in
-    c .as-numbers5 .ensures
-    ∙ ap (λ (n : ℕ). record { position = 5; part = n; size = 0; length = p .given .0 .1 .0; total = p .given .0 .1 .1 .0 }) (c .before .trail-number .ensures)
-    ∙ sym (ap (numbers-of) (p .given .1))
+    c .trail-numbers .ensures ∙ sym (ap numbers-of (c .before .before .place6 .given .1))
 
 returns-7 : tie.Need-returns-7
 returns-7 c =
-    let a = c .before .before .before .before in
-    c .as-numbers6 .ensures ∙ sym (ap (numbers-of) (c .before .before .place7 .given .1))
+    c .as-numbers5 .ensures ∙ sym (ap numbers-of (c .before .before .place7 .given .1))
 
 returns-8 : tie.Need-returns-8
 returns-8 c =
-    let a = c .before .before .before .before in
-    c .as-numbers7 .ensures ∙ sym (ap (numbers-of) (c .before .before .place8 .given .1))
+    c .as-numbers6 .ensures ∙ sym (ap numbers-of (c .before .before .place8 .given .1))
 
 returns-9 : tie.Need-returns-9
 returns-9 c =
     let a = c .before .before .before in
-    c .as-numbers8 .ensures ∙ sym (ap (numbers-of) (is-dead (a .args .place) (c .before .before .match .keys9)))
+    c .as-numbers7 .ensures ∙ sym (ap numbers-of (is-dead (a .args .place) (c .before .before .match .keys9)))
 
 pub numbers-of-spec : {M : Type 1} → statement M
 numbers-of-spec =
@@ -86,7 +74,6 @@ numbers-of-spec =
     (λ c. search needs)
     (λ c κs. search needs)
     (λ c. search needs)
-    (λ c κs. search needs)
     (λ c κs. search needs)
     (λ c. search needs)
     (λ c κs. search needs)

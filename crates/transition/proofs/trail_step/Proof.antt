@@ -37,16 +37,33 @@ returns-3 c = λ room.
 
 returns-4 : tie.Need-returns-4
 returns-4 c = λ room.
-    let v = c .before .before in
+    let f = c .before in
+    let v = f .before .before .before in
     let m = v .before in
     let s = m .before .before .before .args in
     let o = sym (m .before .before .closes .ensures) ∙ m .before .if1 .left in
-    let e = sym (v .trail-live .ensures) ∙ not-false _ (c .before .if2 .left) in
+    let e = sym (v .trail-live .ensures) ∙ not-false _ (f .before .before .if2 .left) in
+    rw (
+      Turns.trail-step,
+      ← (m .trail-step .ensures),
+      Turns.trail-fifteen room (m .trail-step .result) (suc (s .length)) (s .total) e (λ n. f .before .if3 .left (omega arith))
+          (sym (f .is-forbidden .ensures) ∙ c .if4 .taken),
+    )
+
+returns-5 : tie.Need-returns-5
+returns-5 c = λ room.
+    let f = c .before in
+    let v = f .before .before .before in
+    let m = v .before in
+    let s = m .before .before .before .args in
+    let o = sym (m .before .before .closes .ensures) ∙ m .before .if1 .left in
+    let e = sym (v .trail-live .ensures) ∙ not-false _ (f .before .before .if2 .left) in
     rw (
       Turns.trail-step,
       ← (m .trail-step .ensures),
       add-one,
-      Turns.trail-quiet room (m .trail-step .result) (suc (s .length)) (s .total) e (λ n. c .if3 .left (omega arith)),
+      Turns.trail-quiet room (m .trail-step .result) (suc (s .length)) (s .total) e (λ n. f .before .if3 .left (omega arith))
+          (sym (f .is-forbidden .ensures) ∙ c .if4 .left),
     )
 
 pub trail-step-spec : {M : Type 1} → statement M
@@ -59,5 +76,7 @@ trail-step-spec =
     (λ c κs. search needs)
     returns-2
     returns-3
+    (λ c κs. search needs)
+    returns-4
     (λ c. search needs)
-    returns-4)
+    returns-5)

@@ -1,5 +1,6 @@
 //! Chunked bodies, and bytes with a chunk length for the writer.
 
+use super::trailers::{allowed_name, forbidden_name, named_line};
 use super::Rng;
 
 const EXTENSIONS: &[&[u8]] = &[b";a", b";a=b", b";a=\"\"", b";x1=\"q;\\\"\t\xff\"", b";a;b;c=d", b";!=*"];
@@ -19,8 +20,35 @@ fn line_end(rng: &mut Rng) -> Vec<u8> {
     [extension, b"\r\n"].concat()
 }
 
-/// A chunked body and the length of its data.
+/// A trailer line that no rule forbids.
+fn allowed_line(rng: &mut Rng) -> Vec<u8> {
+    if rng.once_in(4) {
+        let name = allowed_name(rng);
+        return named_line(&name, rng);
+    }
+    rng.pick(TRAILER_LINES).to_vec()
+}
+
+/// A trailer line; once in eight it has a name that no trailer may hold.
+fn any_line(rng: &mut Rng) -> Vec<u8> {
+    if rng.once_in(8) {
+        let name = forbidden_name(rng);
+        return named_line(&name, rng);
+    }
+    allowed_line(rng)
+}
+
+/// A chunked body that is whole in enough room, and the length of its data.
 pub fn body(rng: &mut Rng) -> (Vec<u8>, usize) {
+    with_lines(allowed_line, rng)
+}
+
+/// A chunked body that may break the limit on names in its trailer, and the length of its data.
+pub fn any_body(rng: &mut Rng) -> (Vec<u8>, usize) {
+    with_lines(any_line, rng)
+}
+
+fn with_lines(trailer_line: fn(&mut Rng) -> Vec<u8>, rng: &mut Rng) -> (Vec<u8>, usize) {
     let (mut input, mut length) = (Vec::new(), 0);
     for _ in 0..rng.below(5) {
         let most = rng.pick(&[1, 6, 20, 40]);
@@ -34,7 +62,7 @@ pub fn body(rng: &mut Rng) -> (Vec<u8>, usize) {
     input.extend_from_slice(rng.pick(LAST_LINES));
     input.extend(line_end(rng));
     while rng.once_in(4) {
-        input.extend_from_slice(rng.pick(TRAILER_LINES));
+        input.extend(trailer_line(rng));
     }
     input.extend_from_slice(b"\r\n");
     (input, length)

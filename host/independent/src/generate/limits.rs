@@ -1,8 +1,8 @@
-//! Inputs at each limit of document 01, on both sides of it.
+//! Inputs at each limit, on both sides of it; not at that of refusal 14, which takes too many bytes.
 
 use super::values::date_forms;
 use super::Kind;
-use crate::chunked::{LINE_LIMIT, TRAILER_LIMIT};
+use crate::chunked::{FORBIDDEN_FIELDS, LINE_LIMIT, TRAILER_LIMIT};
 use crate::date::{Date, DAY_NAMES};
 use crate::delta::SECONDS_LIMIT;
 use crate::media::PARAMETER_LIMIT;
@@ -25,7 +25,7 @@ fn around(limit: usize) -> impl Iterator<Item = usize> {
 
 pub fn at_limits(kind: Kind) -> Vec<Vec<u8>> {
     if kind == Kind::Chunked {
-        return [lines(), trailers(), sizes()].concat();
+        return [lines(), trailers(), names(), sizes()].concat();
     }
     let mut inputs = long_values(kind);
     match kind {
@@ -156,6 +156,21 @@ fn trailers() -> Vec<Vec<u8>> {
                 inputs.push([b"0\r\n", &trailer[..], tail].concat());
                 inputs.push([b"1;x\r\nq\r\n00\r\n", &trailer[..trailer.len() - 1], tail].concat());
             }
+        }
+    }
+    inputs
+}
+
+/// Names whose colon, or what stands in its place, is about the byte 8,193 of the trailer.
+fn names() -> Vec<Vec<u8>> {
+    let names = FORBIDDEN_FIELDS.iter().chain(&["Trailers", "X"]);
+    let ends = names.flat_map(|name| [":", "", " ", ":\r\n\r\n"].map(|behind| (name.as_bytes(), behind)));
+    let mut inputs = Vec::new();
+    for (name, behind) in ends {
+        for number in around(TRAILER_LIMIT + 1) {
+            let before = padded(b"A:\r\nB:", b'c', b"\r\n", number - 1 - name.len());
+            inputs.push([b"0\r\n", &before[..], name, behind.as_bytes()].concat());
+            inputs.push([b"1\r\nq\r\n0;a\r\n", &before[..], name, behind.as_bytes()].concat());
         }
     }
     inputs

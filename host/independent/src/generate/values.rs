@@ -27,7 +27,7 @@ pub(super) fn value(kind: Kind, rng: &mut Rng) -> Vec<u8> {
         Kind::MediaType => Media::draw(rng).spell(rng),
         Kind::Products => products(rng),
         Kind::Url => UrlParts::draw(rng).spell(rng),
-        Kind::Chunked => bodies::body(rng).0,
+        Kind::Chunked => bodies::any_body(rng).0,
     }
 }
 

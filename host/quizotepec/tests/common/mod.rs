@@ -1,8 +1,10 @@
 //! Lent outputs between canaries, the independent answers in the wrapper's types, and the functions as C sees them.
 #![allow(dead_code)]
 
+use independent::chunked::FORBIDDEN_FIELDS;
+use independent::generate::{allowed_names, forbidden_names, Rng};
 use independent::number;
-use quizotepec::{Refusal, Refused, Which};
+use quizotepec::{Decoded, Refusal, Refused, Span, Which};
 use std::ops::Range;
 
 #[path = "../../src/raw.rs"]
@@ -94,6 +96,7 @@ pub fn refusal(r: independent::Refusal) -> Refusal {
         number::COMMENT_TOO_DEEP => Refusal::CommentTooDeep { place },
         number::VALUE_TOO_LONG => Refusal::ValueTooLong { place },
         number::FRAMED_TOO_LONG => Refusal::FramedTooLong { place },
+        number::FORBIDDEN_FIELD => Refusal::ForbiddenField { place },
         unknown => panic!("documents 01 and 02 have no refusal {unknown}"),
     }
 }
@@ -101,6 +104,32 @@ pub fn refusal(r: independent::Refusal) -> Refusal {
 /// The refusal with a number of documents 01 and 02.
 pub fn at(number: u8, place: usize) -> Refusal {
     refusal(independent::Refusal::new(number, place))
+}
+
+/// The names that no trailer may hold, in many letter cases, and names like them.
+pub fn names(rng: &mut Rng) -> Vec<Vec<u8>> {
+    [forbidden_names(rng), allowed_names()].concat()
+}
+
+/// Bodies with a name that begins or ends as a forbidden one, and is longer: by about 256 bytes, which a byte can't
+/// count, and by others.
+pub fn long_names() -> Vec<Vec<u8>> {
+    let lengths = [1, 2, 100].into_iter().chain(236..=276).chain([511, 512, 513, 4_096, 8_160]);
+    let body = |name: Vec<u8>| [b"0\r\n", &name[..], b":\r\n\r\n"].concat();
+    let longer = lengths.map(|length| vec![b'x'; length]).flat_map(|more| {
+        let both = |name: &str| [[&more, name.as_bytes()].concat(), [name.as_bytes(), &more].concat()];
+        FORBIDDEN_FIELDS.map(both).concat()
+    });
+    longer.map(body).collect()
+}
+
+pub fn span(s: independent::Span) -> Span {
+    Span { start: s.start, length: s.length }
+}
+
+/// A whole body without a trailer: "the start is the closing CRLF and the length 0".
+pub const fn whole(taken: usize, length: usize) -> Decoded {
+    Decoded::Whole { taken, length, trailer: Span { start: taken - 2, length: 0 } }
 }
 
 pub fn refused(r: independent::Refused) -> Refused {

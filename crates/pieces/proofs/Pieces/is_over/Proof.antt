@@ -12,7 +12,7 @@ returns c = sym (ap over (answer-refused (c .before .before .args .self) (c .if1
 returns-2 : tie.Need-returns-2
 returns-2 c =
     let x = c .before .before .before .before in
-    sym (ap over (answer-done (x .args .self) (c .before .before .if1 .left) (c .enum-told .given .0 .0) (c .enum-told .given .1)))
+    sym (ap over (answer-done (x .args .self) (c .before .before .if1 .left) (c .enum-told .given .0 .0) (c .enum-told .given .0 .1 .0) (c .enum-told .given .1)))
 
 returns-3 : tie.Need-returns-3
 returns-3 c =
