@@ -20,11 +20,10 @@ use Rattle.framing.proofs.Scanning.{run-append, quiet-on, quiet-then, quiet-goi
 use Rattle.framing.proofs.Passing.{Passes}
 use Rattle.framing.specs.Grammar.{limits}
 use Rattle.framing.proofs.Judging.{quiet-fits, quiet-line}
-use Rattle.chunked.specs.declared.Answer.{Answer}
-use Rattle.chunked.specs.declared.Answer.the-variants as Answer
+use Rattle.chunked.specs.declared.Ending.{Ending}
+use Rattle.chunked.specs.declared.Ending.the-variants as Ending
 use Rattle.framing.specs.declared.Whole.{Whole}
-use Rattle.chunked.specs.Verdict.{verdict}
-use Rattle.chunked.specs.helpers.Passes.{At, Last}
+use Rattle.chunked.specs.helpers.Passes.{At, Last, answer-of}
 use Rattle.framing.proofs.Rooms.{Fits, ShortLine}
 
 pub begins : (room : ℕ) → judge room start ≡ none
@@ -123,16 +122,21 @@ module _ {room : ℕ} {xs : List ℕ} where
   unfolding Fits
   data-fits at = at-fits at
 
-  -- ## Answers
-  pub last-more : {t : ℕ} → Framing.more ≡ decode room xs → Last room xs t Answer.More
-  last-more e = record { is = e; total = λ w h. let z : _≡_ {A = ℕ} 0 1 = cc in absurd (omega arith) }
+  -- ## Ends
+  pub last-more : {t : ℕ} → Framing.more ≡ decode room xs → Last room xs t Ending.More
+  last-more e = record { is = e; closing = tt }
 
-  pub last-refused : {t : ℕ} {a : Answer} {m i : ℕ} → verdict a ≡ Framing.refused m i → Framing.refused m i ≡ decode room xs
-      → Last room xs t a
-  last-refused f e = record { is = f ∙ e; total = λ w h. let z : _≡_ {A = ℕ} 0 1 = cc in absurd (omega arith) }
+  pub last-refused : {t : ℕ} {e : Ending} {m i : ℕ} → e ≡ Ending.Refused (record { number = m; place = i })
+      → Framing.refused m i ≡ decode room xs → Last room xs t e
+  last-refused {t} f e = subst (Last room xs t) (sym f) (record { is = e; closing = tt })
 
-  pub last-whole : {w : Whole} → Framing.whole w ≡ decode room xs → Last room xs (w .length) (Answer.Whole w)
-  last-whole {w} e = record { is = e; total = λ v h. let z : Framing.whole w ≡ Framing.whole v = e ∙ h in same z }
+  pub last-whole : {t n k : ℕ} → k + 2 ≤ n → answer-of t (Ending.Whole n k) ≡ decode room xs → Last room xs t (Ending.Whole n k)
+  last-whole h e = record { is = e; closing = h }
+
+  pub last-length : {t : ℕ} {e : Ending} → Last room xs t e → (w : Whole) → decode room xs ≡ Framing.whole w → w .length ≡ t
+  last-length {t} {e} l w h = go e (l .is ∙ h)
     where
-      same : {v : Whole} → Framing.whole w ≡ Framing.whole v → v .length ≡ w .length
-      same z = cc
+      go : (e : Ending) → answer-of t e ≡ Framing.whole w → w .length ≡ t
+      go (Ending.Whole n k) z = cc
+      go Ending.More z = let z : _≡_ {A = ℕ} 0 1 = cc in absurd (omega arith)
+      go (Ending.Refused r) z = let z : _≡_ {A = ℕ} 0 1 = cc in absurd (omega arith)

@@ -4,13 +4,14 @@ ghost use mathlib.Core.Bool.{true};
 ghost use mathlib.Core.List.{[], _∷_};
 ghost use Prim.Native.Nat.{_+_, _-_, _<_, _≤_};
 ghost use lib.ListN.{length};
-ghost use Rattle.framing.specs.Answer.{refused};
 ghost use Rattle.framing.specs.declared.LinePos.the-variants.{First};
 ghost use Rattle.framing.specs.declared.State.the-variants.{Line, LineFeed, Trail, EndLf};
 ghost use Rattle.framing.specs.helpers.Machine.{trailer};
 ghost use Rattle.framing.specs.Reading.{decode-output, decode as decodeIn};
 ghost use Rattle.chunked.specs.Verdict.{verdict};
+ghost use Rattle.chunked.specs.declared.Ending.the-variants.{Refused};
 ghost use Rattle.positions.specs.helpers.Ends.{cr-byte};
+ghost use Rattle.chunked.specs.helpers.Passes.{answer-of, Closing};
 ghost use Rattle.chunked.specs.helpers.Passes.{At, WholeOf, SizeRead, LineRead, Last, LineAt, Known, ChunkAt, ChunkRead};
 use framing::ExtPos;
 use framing::LINE_LIMIT;
@@ -31,10 +32,18 @@ pub enum Answer {
     Refused(Refusal),
 }
 
-// What a chunk line comes to: the size and the place of the data behind it, or the answer.
+// What reading ends with: a whole body of so many bytes, with the length of its trailer; or the answer. It is smaller than an answer,
+// because every chunk line is read through it (0.9 of the time at chunks of random length).
+enum Ending {
+    Whole { taken: usize, trailer: usize },
+    More,
+    Refused(Refusal),
+}
+
+// What a chunk line comes to: the size and the place of the data behind it, or the end of reading.
 enum Found {
     Data { size: usize, start: usize },
-    Over(Answer),
+    Over(Ending),
 }
 
 // The last chunk line that was read: its place, its bytes with CR LF, and its size. No bytes: none was read.
@@ -80,7 +89,7 @@ fn decide(input: &[u8], room: usize) -> Answer
             total += last.size;
         } else {
             match chunk(input, at, total, room) {
-                Found::Over(answer) => return answer,
+                Found::Over(ending) => return answer_of(ending, total),
                 Found::Data { size, start } => {
                     let length = start - at;
                     last = LastLine { at, length, size };
@@ -161,11 +170,27 @@ fn again(input: &[u8], last: LastLine, at: usize, left: usize) -> bool
     )
 }
 
-// A refusal as an answer.
-fn refuse(number: u8, place: usize) -> Answer
-    ensures { λ r. ⌜ verdict r ≡ refused number place ⌝ }
+// The answer where reading ends so, behind `total` bytes of data.
+fn answer_of(ending: Ending, total: usize) -> Answer
+    requires { ⌜ Closing ending ⌝ }
+    ensures { λ r. ⌜ verdict r ≡ answer-of total ending ⌝ }
 {
-    Answer::Refused(Refusal { number, place })
+    match ending {
+        Ending::Whole { taken, trailer } => Answer::Whole(Whole {
+            taken,
+            length: total,
+            trailer_start: taken - 2 - trailer,
+            trailer_length: trailer,
+        }),
+        Ending::More => Answer::More,
+        Ending::Refused(r) => Answer::Refused(r),
+    }
+}
+
+fn refuse(number: u8, place: usize) -> Ending
+    ensures { λ r. ⌜ r ≡ Refused (record { number = number; place = place }) ⌝ }
+{
+    Ending::Refused(Refusal { number, place })
 }
 
 // Reads the chunk at `at`, behind chunks with `total` bytes of data, and passes over its data.
@@ -174,17 +199,17 @@ fn chunk(input: &[u8], at: usize, total: usize, room: usize) -> Found
     ensures { λ r. ⌜ ChunkRead room (now (input .entry)) at total r ⌝ }
 {
     match line(input, at, total, room) {
-        Found::Over(answer) => Found::Over(answer),
+        Found::Over(ending) => Found::Over(ending),
         Found::Data { size, start } => {
             if input.len() - start <= size {
-                return Found::Over(Answer::More);
+                return Found::Over(Ending::More);
             }
             let end = start + size;
             if input[end] != b'\r' {
                 return Found::Over(refuse(MALFORMED, end));
             }
             if input.len() - end <= 1 {
-                return Found::Over(Answer::More);
+                return Found::Over(Ending::More);
             }
             if input[end + 1] != b'\n' {
                 return Found::Over(refuse(MALFORMED, end + 1));
@@ -223,7 +248,7 @@ fn line(input: &[u8], start: usize, total: usize, room: usize) -> Found
         value = value * 16 + digit;
         at += 1;
     }
-    Found::Over(Answer::More)
+    Found::Over(Ending::More)
 }
 
 // Reads the line at `line`, whose digits have the value `size` and end at `end`, on to its CR.
@@ -257,7 +282,7 @@ fn extensions(
         }
         at += 1;
     }
-    Found::Over(Answer::More)
+    Found::Over(Ending::More)
 }
 
 // Behind the CR of the line at `line`, which gives `size`.
@@ -266,7 +291,7 @@ fn line_feed(input: &[u8], line: usize, at: usize, size: usize, total: usize, ro
     ensures { λ r. ⌜ LineRead room (now (input .entry)) line total r ⌝ }
 {
     if input.len() <= at {
-        return Found::Over(Answer::More);
+        return Found::Over(Ending::More);
     }
     if input[at] != b'\n' {
         return Found::Over(refuse(MALFORMED, at));
@@ -281,7 +306,7 @@ fn line_feed(input: &[u8], line: usize, at: usize, size: usize, total: usize, ro
 }
 
 // Reads the trailer at `start`, behind the last chunk's line, and the closing CR LF.
-fn trailer(input: &[u8], start: usize, total: usize, room: usize) -> Answer
+fn trailer(input: &[u8], start: usize, total: usize, room: usize) -> Ending
     requires { ⌜ At room (now input) (Trail (trailer .begin) 0 total) start ⌝ }
     ensures { λ r. ⌜ Last room (now (input .entry)) total r ⌝ }
 {
@@ -304,24 +329,22 @@ fn trailer(input: &[u8], start: usize, total: usize, room: usize) -> Answer
         }
         at += 1;
     }
-    Answer::More
+    Ending::More
 }
 
 // Behind the CR at `end` that closes a body, whose trailer is at `start`.
-fn close(input: &[u8], start: usize, end: usize, total: usize, room: usize) -> Answer
+fn close(input: &[u8], start: usize, end: usize, total: usize, room: usize) -> Ending
     requires { ⌜ (start ≤ end) × At room (now input) (EndLf total (end - start)) (end + 1) ⌝ }
     ensures { λ r. ⌜ Last room (now (input .entry)) total r ⌝ }
 {
     if input.len() - end <= 1 {
-        return Answer::More;
+        return Ending::More;
     }
     if input[end + 1] != b'\n' {
         return refuse(MALFORMED, end + 1);
     }
-    Answer::Whole(Whole {
+    Ending::Whole {
         taken: end + 2,
-        length: total,
-        trailer_start: start,
-        trailer_length: end - start,
-    })
+        trailer: end - start,
+    }
 }

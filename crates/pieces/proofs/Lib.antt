@@ -6,6 +6,7 @@ pub mod Sequences
 pub mod Answers
 pub mod PlainLines
 pub mod Passing
+pub mod Chunks
 pub mod Valid
 pub mod Rest
 pub mod Demands

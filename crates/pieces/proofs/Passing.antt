@@ -163,15 +163,21 @@ passed-wider {s} {r} n bytes {old} p =
     }
 
 -- no data, nothing written
-pub ran-passed : {s r : Pieces} (n : ℕ) (bytes old : List ℕ) → Ran s (take n bytes) r → Passed s bytes old r old
-ran-passed {s} n bytes old p =
-    passed-wider n bytes (record {
-      count = p .count;
-      inside = p .inside;
-      taken = p .taken;
-      state = p .state;
-      wrote = sym (ap (placed old (filled (s .position))) (p .none) ∙ placed-none old (filled (s .position)));
-    })
+pub ran-passed : {s r : Pieces} {bytes : List ℕ} (old : List ℕ) → Ran s bytes r → Passed s bytes old r old
+ran-passed {s} old p = record {
+  count = p .count;
+  inside = p .inside;
+  taken = p .taken;
+  state = p .state;
+  wrote = sym (ap (placed old (filled (s .position))) (p .none) ∙ placed-none old (filled (s .position)));
+}
+
+-- no byte, nothing written
+pub still-passed : {s r : Pieces} {bytes old new : List ℕ} → Passed s bytes old r new → r .taken ≤ s .taken → new ≡ old
+unfolding steps
+still-passed {s} {r} {bytes} {old} p h =
+    let k : p .count ≡ 0 = omega (arith, p .taken) in
+    p .wrote ∙ ap (λ (n : ℕ). placed old (filled (s .position)) (gathered s (take n bytes))) k ∙ placed-none old (filled (s .position))
 
 -- ## No data that is taken
 pub idle-by : (s : Pieces) → ((b : ℕ) → emit (s .position) b ≡ []) → Idle s

@@ -15,32 +15,32 @@ use Rattle.pieces.proofs.Passing.{placed-none}
 use Rattle.pieces.proofs.Steps.{over-stays, over-steps, advance-one, gathered-none, advance-append, gathered-append}
 use Rattle.pieces.proofs.Steps.{advance-room, advance-sound, filled-on, gathered-fits, onward, turned, Turn, goes, stops, turn}
 
--- from s, at the place i of the bytes, with `new` written, what remains leads to where all of the bytes lead from s₀
-pub record Rest (s₀ : Pieces) (bytes old : List ℕ) (s : Pieces) (new : List ℕ) (i : ℕ) : Type 0 where
+-- from s, at the place i of the bytes, with `new` written, what remains leads to where the bytes lead from s₀ at the place i₀
+pub record Rest (s₀ : Pieces) (i₀ : ℕ) (bytes old : List ℕ) (s : Pieces) (new : List ℕ) (i : ℕ) : Type 0 where
   pub inside : i ≤ length bytes
   pub sound : Sound s
   pub lent : length new ≡ s .room
-  pub goes : advance s (drop i bytes) ≡ advance s₀ bytes
-  pub wrote : placed new (filled (s .position)) (gathered s (drop i bytes)) ≡ placed old (filled (s₀ .position)) (gathered s₀ bytes)
+  pub goes : advance s (drop i bytes) ≡ advance s₀ (drop i₀ bytes)
+  pub wrote : placed new (filled (s .position)) (gathered s (drop i bytes)) ≡ placed old (filled (s₀ .position)) (gathered s₀ (drop i₀ bytes))
 
 -- what falls: the bytes that remain, and one where the body goes on
 abbrev pub left : List ℕ → Pieces → ℕ → ℕ
 left bytes s i = length bytes - i + cond (over? s) 0 1
 
 -- where the code goes on behind a byte, to t, and that something falls
-pub record Onward (s₀ : Pieces) (bytes old : List ℕ) (s : Pieces) (new : List ℕ) (i : ℕ) (t : Pieces) : Type 0 where
+pub record Onward (s₀ : Pieces) (i₀ : ℕ) (bytes old : List ℕ) (s : Pieces) (new : List ℕ) (i : ℕ) (t : Pieces) : Type 0 where
   pub least : s .taken ≤ t .taken
   pub most : t .taken ≤ s .taken + 1
-  pub rest : Rest s₀ bytes old t new (i + (t .taken - s .taken))
+  pub rest : Rest s₀ i₀ bytes old t new (i + (t .taken - s .taken))
   pub falls : left bytes t (i + (t .taken - s .taken)) < left bytes s i
 
-module _ {s₀ : Pieces} {bytes old : List ℕ} where
-  pub rest-start : Sound s₀ → length old ≡ s₀ .room → Rest s₀ bytes old s₀ old 0
-  rest-start d l = record { inside = omega arith; sound = d; lent = l; goes = refl; wrote = refl }
+module _ {s₀ : Pieces} {i₀ : ℕ} {bytes old : List ℕ} where
+  pub rest-start : i₀ ≤ length bytes → Sound s₀ → length old ≡ s₀ .room → Rest s₀ i₀ bytes old s₀ old i₀
+  rest-start h d l = record { inside = h; sound = d; lent = l; goes = refl; wrote = refl }
 
-  module _ {s : Pieces} {new : List ℕ} {i : ℕ} (r : Rest s₀ bytes old s new i) where
+  module _ {s : Pieces} {new : List ℕ} {i : ℕ} (r : Rest s₀ i₀ bytes old s new i) where
     -- nothing remains
-    pub rest-over : over? s ≡ true → (s ≡ advance s₀ bytes) × (new ≡ placed old (filled (s₀ .position)) (gathered s₀ bytes))
+    pub rest-over : over? s ≡ true → (s ≡ advance s₀ (drop i₀ bytes)) × (new ≡ placed old (filled (s₀ .position)) (gathered s₀ (drop i₀ bytes)))
     rest-over o = (
       sym (over-stays s o (drop i bytes)) ∙ r .goes,
       sym (ap (placed new (filled (s .position))) (gathered-none s (drop i bytes) (over-steps s o (drop i bytes)))
@@ -48,7 +48,7 @@ module _ {s₀ : Pieces} {bytes old : List ℕ} where
           ∙ r .wrote,
     )
 
-    pub rest-end : length bytes ≤ i → (s ≡ advance s₀ bytes) × (new ≡ placed old (filled (s₀ .position)) (gathered s₀ bytes))
+    pub rest-end : length bytes ≤ i → (s ≡ advance s₀ (drop i₀ bytes)) × (new ≡ placed old (filled (s₀ .position)) (gathered s₀ (drop i₀ bytes)))
     unfolding advance steps
     rest-end h =
         let e : i ≡ length bytes = omega (arith, r .inside) in
@@ -59,10 +59,10 @@ module _ {s₀ : Pieces} {bytes old : List ℕ} where
 
     pub rest-room : s .room ≡ s₀ .room
     rest-room =
-        sym (advance-room s (drop i bytes)) ∙ ap (λ (z : Pieces). z .room) (r .goes) ∙ advance-room s₀ bytes
+        sym (advance-room s (drop i bytes)) ∙ ap (λ (z : Pieces). z .room) (r .goes) ∙ advance-room s₀ (drop i₀ bytes)
 
     -- over a run
-    pub rest-on : {t : Pieces} {next : List ℕ} (p : Passed s (drop i bytes) new t next) → Rest s₀ bytes old t next (i + p .count)
+    pub rest-on : {t : Pieces} {next : List ℕ} (p : Passed s (drop i bytes) new t next) → Rest s₀ i₀ bytes old t next (i + p .count)
     rest-on {t} {next} p =
         let ys : List ℕ = drop i bytes in
         let k : ℕ = p .count in
@@ -114,7 +114,7 @@ module _ {s₀ : Pieces} {bytes old : List ℕ} where
 
       -- the byte is refused: nothing remains
       rest-turned : (n : ℕ) → over? (turned s n) ≡ true → ((xs : List ℕ) → advance s (b ∷ xs) ≡ turned s n)
-          → ((xs : List ℕ) → steps s (b ∷ xs) ≡ 0) → (listed (s .refused) ≡ true → listed n ≡ true) → Rest s₀ bytes old (turned s n) new i
+          → ((xs : List ℕ) → steps s (b ∷ xs) ≡ 0) → (listed (s .refused) ≡ true → listed n ≡ true) → Rest s₀ i₀ bytes old (turned s n) new i
       rest-turned n v a k l = record {
         inside = r .inside;
         sound = record { stands = r .sound .stands; within = r .sound .within; lists = l (r .sound .lists) };
@@ -126,7 +126,7 @@ module _ {s₀ : Pieces} {bytes old : List ℕ} where
             ∙ r .wrote;
       }
 
-      pub rest-next : Onward s₀ bytes old s new i (next s b)
+      pub rest-next : Onward s₀ i₀ bytes old s new i (next s b)
       unfolding one-passed
       rest-next = go (turn s b)
         where
@@ -140,32 +140,32 @@ module _ {s₀ : Pieces} {bytes old : List ℕ} where
           none : (t : Pieces) → over? t ≡ true → _≡_ {A = ℕ} (cond (over? t) 0 1) 0
           none t v = ap (λ (x : Bool). cond {A = ℕ} x 0 1) v
 
-          go : Turn s b → Onward s₀ bytes old s new i (next s b)
+          go : Turn s b → Onward s₀ i₀ bytes old s new i (next s b)
           go (goes _ _ e) =
               let z : i + 1 ≡ i + (suc (s .taken) - s .taken) = omega arith in
-              subst (Onward s₀ bytes old s new i) (sym e) (record {
+              subst (Onward s₀ i₀ bytes old s new i) (sym e) (record {
                 least = omega arith;
                 most = omega arith;
-                rest = subst (Rest s₀ bytes old (onward s b) new) z (rest-on (one-passed e));
+                rest = subst (Rest s₀ i₀ bytes old (onward s b) new) z (rest-on (one-passed e));
                 falls = omega (arith, some, small (over? (onward s b)));
               })
           go (stops n l v a k) =
               let z : i ≡ i + (s .taken - s .taken) = omega arith in
-              subst (Onward s₀ bytes old s new i) (sym (sym (advance-one s b o) ∙ a [])) (record {
+              subst (Onward s₀ i₀ bytes old s new i) (sym (sym (advance-one s b o) ∙ a [])) (record {
                 least = omega arith;
                 most = omega arith;
-                rest = subst (Rest s₀ bytes old (turned s n) new) z (rest-turned n v a k l);
+                rest = subst (Rest s₀ i₀ bytes old (turned s n) new) z (rest-turned n v a k l);
                 falls = omega (arith, some, none (turned s n) v);
               })
 
     -- a run of no bytes
-    pub rest-still : {t : Pieces} {next : List ℕ} → Passed s (drop i bytes) new t next → t .taken ≤ s .taken → Rest s₀ bytes old s next i
+    pub rest-still : {t : Pieces} {next : List ℕ} → Passed s (drop i bytes) new t next → t .taken ≤ s .taken → Rest s₀ i₀ bytes old s next i
     unfolding advance
     rest-still {t} {next} p h =
         let k : p .count ≡ 0 = omega (arith, p .taken) in
         let e : t ≡ s = p .state ∙ ap (λ (n : ℕ). advance s (take n (drop i bytes))) k in
         let z : i + p .count ≡ i = omega arith in
-        subst (λ (x : Pieces). Rest s₀ bytes old x next i) e (subst (Rest s₀ bytes old t next) z (rest-on p))
+        subst (λ (x : Pieces). Rest s₀ i₀ bytes old x next i) e (subst (Rest s₀ i₀ bytes old t next) z (rest-on p))
 
     -- a run of some bytes
     pub run-falls : over? s ≡ false → (t : Pieces) (k : ℕ) → 0 < k → i + k ≤ length bytes → left bytes t (i + k) < left bytes s i

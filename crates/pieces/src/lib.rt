@@ -4,6 +4,7 @@ ghost use mathlib.Core.Bool.{true, false};
 ghost use Prim.Native.Nat.{_+_, _-_, _<_, _≤_};
 ghost use lib.ListN.{length, length as lengthOf};
 ghost use Rattle.text.specs.Placing.{placed};
+ghost use Rattle.framing.specs.declared.LinePos.the-variants.{First};
 ghost use Rattle.framing.specs.declared.State.the-variants.{Line, Data};
 ghost use Rattle.chunked.specs.Verdict.{verdict};
 ghost use Rattle.pieces.specs.Grammar.{FRAMED_LIMIT as MOST};
@@ -11,6 +12,7 @@ ghost use Rattle.pieces.specs.Reading.{begun, next as stepped, answer-of
 ghost use Rattle.pieces.specs.Reading.{listed as isListed, valid};
 ghost use Rattle.pieces.specs.Reading.{state-after, taken-by, answered, output-after};
 ghost use Rattle.pieces.specs.helpers.Runs.{Sound, Going, Ran, Passed, Idle, InDigits, PlainLine};
+ghost use Rattle.pieces.specs.helpers.Runs.{PlainSize, PlainChunk};
 use chunked::Answer;
 use framing::LINE_LIMIT;
 use framing::LinePos;
@@ -190,15 +192,19 @@ impl Pieces {
         }
     }
 
-    // The state behind as many of the bytes as it takes. What is passed over at once is not looked at byte by byte.
+    // The state behind as many of the bytes as it takes. What is passed over at once is not looked at byte by byte; the data of a chunk
+    // that has begun comes before the loop, since a short piece holds nothing else (0.9 of the time in pieces of one byte).
     fn read(self, bytes: &[u8], out: &mut [u8]) -> Pieces
         requires { ⌜ Sound self × (length (now out) ≡ self .room) ⌝ }
         ensures goes { λ r. ⌜ r ≡ advance self (now (bytes .entry)) ⌝ }
         ensures writes { λ _. ⌜ now (out .exit)
             ≡ placed (now (out .entry)) (filled (self .position)) (gathered self (now (bytes .entry))) ⌝ }
     {
-        let mut state = self;
-        let mut at = 0;
+        if self.is_over() {
+            return self;
+        }
+        let mut state = self.pass_begun(bytes, out);
+        let mut at = state.taken - self.taken;
         while at < bytes.len() {
             if state.is_over() {
                 return state;
@@ -216,7 +222,20 @@ impl Pieces {
         state
     }
 
-    // Passes over data, or over a line of digits; the state as it is where neither stands next.
+    // Passes over the data of a chunk that has begun, if one has.
+    fn pass_begun(self, bytes: &[u8], out: &mut [u8]) -> Pieces
+        requires { ⌜ Going self (now out) ⌝ }
+        ensures { λ r. ⌜ Passed self (now (bytes .entry)) (now (out .entry)) r (now (out .exit)) ⌝ }
+    {
+        let end = octets::least(bytes.len(), FRAMED_LIMIT - self.taken);
+        let position = self.position;
+        match position {
+            State::Data { left, total } => self.pass_data(left, total, &bytes[0..end], out),
+            _ => self,
+        }
+    }
+
+    // Passes over data, or over lines of digits and what follows them; the state as it is where neither stands next.
     fn pass(self, bytes: &[u8], out: &mut [u8]) -> Pieces
         requires { ⌜ Going self (now out) ⌝ }
         ensures goes { λ r. ⌜ Passed self (now (bytes .entry)) (now (out .entry)) r (now (out .exit)) ⌝ }
@@ -230,7 +249,7 @@ impl Pieces {
                 position,
                 length,
                 before,
-            } => self.pass_line(position, length, before, &bytes[0..end]),
+            } => self.pass_lines(position, length, before, &bytes[0..end], out),
             _ => self,
         }
     }
@@ -269,27 +288,90 @@ impl Pieces {
         self.moved(State::DataCr { total }, run)
     }
 
-    // A line of digits that lies whole in the bytes.
-    fn pass_line(self, position: LinePos, length: usize, before: usize, bytes: &[u8]) -> Pieces
-        requires { ⌜ Sound self × (over? self ≡ false) × (self .position ≡ Line position length before)
+    // From the start of a line: chunks that lie whole in the bytes, or else a line of digits. The shortest with its CR LF has three bytes.
+    fn pass_lines(
+        self,
+        position: LinePos,
+        length: usize,
+        before: usize,
+        bytes: &[u8],
+        out: &mut [u8],
+    ) -> Pieces
+        requires { ⌜ Going self (now out) × (self .position ≡ Line position length before)
             × (self .taken + lengthOf (now bytes) ≤ MOST) ⌝ }
-        ensures { λ r. ⌜ Ran self (now (bytes .entry)) r ⌝ }
+        ensures { λ r. ⌜ Passed self (now (bytes .entry)) (now (out .entry)) r (now (out .exit)) ⌝ }
     {
         if length != 0 {
             return self;
         }
+        if bytes.len() < 3 {
+            return self;
+        }
         match position {
-            LinePos::First => match plain_line(bytes, self.room - before) {
-                Plain::Size { value, length } => self.moved(
-                    State::Data {
-                        left: value - 1,
-                        total: before + value,
-                    },
-                    length,
-                ),
-                Plain::Other => self,
-            },
+            LinePos::First => {
+                let passed = self.pass_chunks(before, bytes, out);
+                if passed.taken > self.taken {
+                    return passed;
+                }
+                self.pass_line(before, bytes)
+            }
             _ => self,
+        }
+    }
+
+    // Chunks that lie whole in the bytes, as numbers alone: half the time of going from state to state, at chunks of 16.
+    fn pass_chunks(self, before: usize, bytes: &[u8], out: &mut [u8]) -> Pieces
+        requires { ⌜ Going self (now out) × (self .position ≡ Line First 0 before) × (self .taken + length (now bytes) ≤ MOST) ⌝ }
+        ensures { λ r. ⌜ Passed self (now (bytes .entry)) (now (out .entry)) r (now (out .exit)) ⌝ }
+    {
+        let mut at = 0;
+        let mut total = before;
+        while at < bytes.len() {
+            match plain_chunk(&bytes[at..], self.room - total) {
+                Plain::Size { value, length } => {
+                    let data = at + length;
+                    text::put_bytes(&bytes[data..data + value], out, total);
+                    at = data + value + 2;
+                    total += value;
+                }
+                Plain::Other => {
+                    return self.at_line(total, at);
+                }
+            }
+        }
+        self.at_line(total, at)
+    }
+
+    // At the start of the next line, behind so many bytes more.
+    fn at_line(self, total: usize, count: usize) -> Pieces
+        requires { ⌜ self .taken + count ≤ MOST ⌝ }
+        ensures { λ r. ⌜ r ≡ record { position = Line First 0 total; taken = self .taken + count; room = self .room; refused = 0 } ⌝ }
+    {
+        self.moved(
+            State::Line {
+                position: LinePos::First,
+                length: 0,
+                before: total,
+            },
+            count,
+        )
+    }
+
+    // A line of digits that lies whole in the bytes.
+    fn pass_line(self, before: usize, bytes: &[u8]) -> Pieces
+        requires { ⌜ Sound self × (over? self ≡ false) × (self .position ≡ Line First 0 before)
+            × (self .taken + length (now bytes) ≤ MOST) ⌝ }
+        ensures { λ r. ⌜ Ran self (now (bytes .entry)) r ⌝ }
+    {
+        match plain_line(bytes, self.room - before) {
+            Plain::Size { value, length } => self.moved(
+                State::Data {
+                    left: value - 1,
+                    total: before + value,
+                },
+                length,
+            ),
+            Plain::Other => self,
         }
     }
 
@@ -370,6 +452,37 @@ fn back(place: usize, count: usize) -> usize
         return 0;
     }
     place - count
+}
+
+// A chunk at the front of the bytes that lies whole in them, with a line of digits alone.
+fn plain_chunk(bytes: &[u8], left: usize) -> Plain
+    ensures { λ r. ⌜ PlainChunk (now (bytes .entry)) left r ⌝ }
+{
+    match plain_line(bytes, left) {
+        Plain::Size { value, length } => ended_chunk(bytes, value, length, left),
+        Plain::Other => Plain::Other,
+    }
+}
+
+// Behind its line.
+fn ended_chunk(bytes: &[u8], value: usize, length: usize, left: usize) -> Plain
+    requires { ⌜ PlainSize (now bytes) left value length ⌝ }
+    ensures { λ r. ⌜ PlainChunk (now (bytes .entry)) left r ⌝ }
+{
+    let behind = bytes.len() - length;
+    if behind < 2 {
+        return Plain::Other;
+    }
+    if value > behind - 2 {
+        return Plain::Other;
+    }
+    if bytes[length + value] != b'\r' {
+        return Plain::Other;
+    }
+    if bytes[length + value + 1] != b'\n' {
+        return Plain::Other;
+    }
+    Plain::Size { value, length }
 }
 
 // A chunk line of digits alone at the front of the bytes, with its CR LF, that gives a size above zero and at most `left`.

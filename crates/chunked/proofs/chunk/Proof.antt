@@ -51,7 +51,7 @@ returns-4 c =
     (lf-refused (behind (e .before .before)) (omega arith) (e .if2 .left) (omega arith) (c .before .if4 .taken))
 
 returns-5 : tie.Need-returns-5
-returns-5 c = found (c .before .before .before) (c .before .answer .given .1)
+returns-5 c = found (c .before .before .before) (c .before .ending .given .1)
 
 returns-6 : tie.Need-returns-6
 returns-6 c =

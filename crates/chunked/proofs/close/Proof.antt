@@ -20,7 +20,7 @@ returns-2 c =
 returns-3 : tie.Need-returns-3
 returns-3 c =
     let p = c .before .before .before .before .pre in
-    last-whole (close-whole (p .0) (p .1) (omega arith) (c .if2 .left))
+    last-whole (omega (arith, p .0)) (close-whole (p .0) (p .1) (omega arith) (c .if2 .left))
 
 pub close-spec : {M : Type 1} → statement M
 close-spec =

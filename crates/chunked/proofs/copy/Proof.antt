@@ -6,7 +6,7 @@ use Prim.Native.Nat.{ℕ, _-_}
 use lib.ListN.{length}
 use Rattle.chunked.specs.declared.Found.{Found}
 use Rattle.chunked.specs.helpers.Passes.{Copied, Known, ChunkRead}
-use Rattle.chunked.proofs.Passes.{first-fits}
+use Rattle.chunked.proofs.Passes.{first-fits, last-length}
 use Rattle.chunked.proofs.Chunks.{none-known, chunk-known}
 use Rattle.chunked.proofs.Copies.{copied-start, copied-length, copied-fits, copied-on, read-copied-on, copied-all}
 use Rattle.chunked.proofs.copy.Statement.{statement}
@@ -117,7 +117,7 @@ returns c =
     let i = c .before .before .before .before .before in
     let s = i .before .before .before .before in
     let r = found (c .before .before) (c .enum-told .given .1) in
-    absurd (omega (arith, r .total (s .pre .0) (s .pre .1), s .pre .2, i .loop-test .taken))
+    absurd (omega (arith, last-length r (s .pre .0) (s .pre .1), s .pre .2, i .loop-test .taken))
 
 add-copy-3 : tie.Need-add-copy-3 Inv-loop μ-loop
 add-copy-3 c =

@@ -1,7 +1,7 @@
 -- `chunked::decide` meets its contract. The loop stands before a chunk line, with as much data behind it as `total` says.
 use native.Mathlib.Omega.{arith}
 use borrow.Author.Needs.{needs}
-use mathlib.Core.Path.{_≡_, subst}
+use mathlib.Core.Path.{_≡_, _∙_, subst}
 use Prim.Native.Nat.{ℕ, _-_}
 use lib.ListN.{length}
 use Rattle.chunked.specs.declared.Found.{Found}
@@ -75,8 +75,11 @@ loop-again c =
 chunk-requires : tie.Need-chunk-requires Inv-loop μ-loop
 chunk-requires c κs = c .before .before .loop .inv .0
 
+answer-of-requires : tie.Need-answer-of-requires Inv-loop μ-loop
+answer-of-requires c κs = found (c .before .before .before) (c .before .ending .given .1) .closing
+
 returns : tie.Need-returns Inv-loop μ-loop
-returns c = found (c .before .before .before) (c .before .answer .given .1) .is
+returns c = c .answer-of .ensures ∙ found (c .before .before .before .before) (c .before .before .ending .given .1) .is
 
 sub-length : tie.Need-sub-length Inv-loop μ-loop
 sub-length c = found (c .before .before .before) (c .before .size .given .1) .0
@@ -126,6 +129,7 @@ decide-spec =
     loop-again
     chunk-requires
     (λ c. search needs)
+    answer-of-requires
     returns
     (λ c. search needs)
     sub-length

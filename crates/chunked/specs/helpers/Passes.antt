@@ -6,7 +6,7 @@ use Prim.Native.Nat.{ℕ, _+_, _-_, _<_, _≤_}
 use Prim.Native.Char.{code}
 use lib.ListN.{length, getD, take, drop}
 use Rattle.octets.specs.Bytes.{hex?}
-use Rattle.framing.specs.Answer.{whole}
+use Rattle.framing.specs.Answer.{Answer, whole, more, refused}
 use Rattle.framing.specs.Grammar as G
 use Rattle.framing.specs.Grammar.{crlf, LINE_LIMIT}
 use Rattle.framing.specs.declared.LinePos.the-variants.{First, Size}
@@ -17,8 +17,8 @@ use Rattle.framing.specs.helpers.Machine.{lineStep, step, emit, start}
 use Rattle.framing.specs.helpers.Scan.{run, out, Quiet}
 use Rattle.framing.specs.Reading.{judge, decode}
 use Rattle.positions.specs.helpers.Ends.{cr-byte}
-use Rattle.chunked.specs.Verdict.{verdict}
-use Rattle.chunked.specs.declared.Answer.{Answer}
+use Rattle.chunked.specs.declared.Ending.{Ending}
+use Rattle.chunked.specs.declared.Ending.the-variants as Ending
 use Rattle.chunked.specs.declared.LastLine.{LastLine}
 use Rattle.chunked.specs.declared.Found.{Found}
 use Rattle.chunked.specs.declared.Found.the-variants as Found
@@ -38,10 +38,22 @@ pub record Copied (xs old new : List ℕ) (i o : ℕ) : Type 0 where
   pub at : At (length old) xs (Line First 0 o) i
   pub wrote : new ≡ dataTo xs i ++ drop o old
 
--- the answer, where no data follows the t bytes so far
-pub record Last (room : ℕ) (xs : List ℕ) (t : ℕ) (a : Answer) : Type 0 where
-  pub is : verdict a ≡ decode room xs
-  pub total : (w : Whole) → decode room xs ≡ whole w → w .length ≡ t
+-- what is answered where reading ends so, behind t bytes of data
+abbrev pub answer-of : ℕ → Ending → Answer Whole
+answer-of t (Ending.Whole n k) = whole (record { taken = n; length = t; «trailer_start» = n - 2 - k; «trailer_length» = k })
+answer-of t Ending.More = more
+answer-of t (Ending.Refused r) = refused (r .number) (r .place)
+
+-- the trailer and CR LF are among the bytes
+abbrev pub Closing : Ending → Type 0
+Closing (Ending.Whole n k) = k + 2 ≤ n
+Closing Ending.More = Unit {0}
+Closing (Ending.Refused r) = Unit {0}
+
+-- reading ends so, and no data follows the t bytes so far
+pub record Last (room : ℕ) (xs : List ℕ) (t : ℕ) (e : Ending) : Type 0 where
+  pub is : answer-of t e ≡ decode room xs
+  pub closing : Closing e
 
 -- the answer is whole, with so many bytes of data
 abbrev pub WholeOf : ℕ → List ℕ → ℕ → Type 0

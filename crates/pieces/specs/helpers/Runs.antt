@@ -3,7 +3,7 @@ use mathlib.Core.Path.{_≡_}
 use mathlib.Core.Bool.{true, false}
 use mathlib.Core.List.{List, [], _∷_, _++_}
 use Prim.Native.Nat.{ℕ, _+_, _<_, _≤_}
-use lib.ListN.{length, take}
+use lib.ListN.{length, getD, take}
 use Rattle.text.specs.Placing.{placed}
 use Rattle.framing.specs.Grammar as G
 use Rattle.framing.specs.Grammar.{crlf, Many, valueFrom, LINE_LIMIT}
@@ -69,3 +69,14 @@ pub record PlainSize (bytes : List ℕ) (left v n : ℕ) : Type 0 where
 abbrev pub PlainLine : List ℕ → ℕ → Plain → Type 0
 PlainLine bytes left (Plain.Size v n) = PlainSize bytes left v n
 PlainLine bytes left Plain.Other = Unit {0}
+
+-- ## A chunk that lies whole in the bytes
+-- CR LF stands at a place
+pub record Closed (bytes : List ℕ) (at : ℕ) : Type 0 where
+  pub inside : at + 2 ≤ length bytes
+  pub cr : getD bytes at 0 ≡ 13
+  pub lf : getD bytes (at + 1) 0 ≡ 10
+
+abbrev pub PlainChunk : List ℕ → ℕ → Plain → Type 0
+PlainChunk bytes left (Plain.Size v n) = PlainSize bytes left v n × Closed bytes (n + v)
+PlainChunk bytes left Plain.Other = Unit {0}

@@ -2,7 +2,6 @@
 use borrow.Author.Needs.{needs}
 use native.Mathlib.Omega.{arith}
 use mathlib.Core.Path.{_∙_, ap}
-use mathlib.Core.List.{[]}
 use Prim.Native.Nat.{_+_, _-_, _≤_}
 use lib.ListN.{length, take, length-take}
 use Rattle.framing.specs.declared.State.{State}
@@ -30,11 +29,10 @@ pass-data-requires c κs =
     let n = c .before .before .before in
     (n .before .before .before .before .before .before .pre, n .position .given .1, within (n .before .before))
 
-pass-line-requires : tie.Need-pass-line-requires
-pass-line-requires c κs =
-    let n = c .before .before in
-    let x = n .before .before .before .before .before .before in
-    (x .pre .sound, x .pre .going, n .position2 .given .1, within (n .before .before))
+pass-lines-requires : tie.Need-pass-lines-requires
+pass-lines-requires c κs =
+    let n = c .before .before .before in
+    (n .before .before .before .before .before .before .pre, n .position2 .given .1, within (n .before .before))
 
 returns : tie.Need-returns
 returns c =
@@ -54,10 +52,11 @@ returns c =
 
 returns-2 : tie.Need-returns-2
 returns-2 c =
-    let n = c .before .before .before in
+    let p = c .before .before in
+    let n = p .before .before .before .before in
     let l = n .before .before in
     let x = l .before .before .before .before in (
-      ran-passed (l .least .result - 0) (x .args .bytes .now) (x .args .out .now) (c .pass-line .ensures),
+      passed-wider (l .least .result - 0) (x .args .bytes .now) (p .pass-lines .ensures),
       λ _ _. idle-by (x .args .self) (λ b. ap (λ (q : State). emit q b) (n .position2 .given .1) ∙ emit-line _ b _ _),
     )
 
@@ -65,7 +64,7 @@ returns-3 : tie.Need-returns-3
 returns-3 c =
     let l = c .before in
     let x = l .before .before .before .before in (
-      ran-passed 0 (x .args .bytes .now) (x .args .out .now) (ran-none (x .args .self) []),
+      ran-passed (x .args .out .now) (ran-none (x .args .self) (x .args .bytes .now)),
       λ _ _. idle-by (x .args .self) (no-data (x .args .self .position) (c .match .keys3)),
     )
 
@@ -84,8 +83,9 @@ pass-spec =
     (λ c. search needs)
     (λ c. search needs)
     (λ c. search needs)
-    pass-line-requires
+    pass-lines-requires
     (λ c. search needs)
     returns
+    (λ c. search needs)
     returns-2
     returns-3)
