@@ -53,7 +53,7 @@ enum {
     QZ_VALUE_TOO_LONG = 13,
     /* Framed body above 1,099,511,627,776 bytes (reader of pieces); place: the byte after that. */
     QZ_FRAMED_TOO_LONG = 14,
-    /* Trailer field that no trailer may hold; place: its colon. */
+    /* Trailer field Transfer-Encoding, Content-Length or Trailer, letter case ignored; place: its colon. */
     QZ_FORBIDDEN_FIELD = 15
 };
 

@@ -21,7 +21,7 @@ use Rattle.framing.specs.Reading.{decode}
 use Rattle.framing.proofs.Scanning.{run-append}
 use Rattle.framing.proofs.Lines.{lineRun, line-complete}
 use Rattle.chunked.specs.declared.Ending.the-variants as Ending
-use Rattle.chunked.specs.helpers.Passes.{At, SizeRead, LineAt, answer-of}
+use Rattle.chunked.specs.helpers.Passes.{At, SizeRead, LineAt, ending-answer}
 use Rattle.chunked.proofs.Passes.{at-next, at-refuse, at-end, first-fits, line-short}
 use Rattle.framing.proofs.Turns as Turns
 
@@ -271,7 +271,7 @@ module _ {room : ℕ} {xs : List ℕ} where
     close-refused h = at-refuse at lt (Turns.end-other (getD xs (k + 1) 0) t (k - i) h) (Turns.no-more room)
 
     pub close-whole : getD xs (k + 1) 0 ≡ 10
-        → answer-of t (Ending.Whole (k + 2) (k - i)) ≡ decode room xs
+        → ending-answer t (Ending.Whole (k + 2) (k - i)) ≡ decode room xs
     close-whole h =
         ap₂ (λ (m n : ℕ). Framing.whole (record { taken = m; length = t; «trailer_start» = n; «trailer_length» = k - i }))
         (omega arith) (omega arith)

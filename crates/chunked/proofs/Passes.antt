@@ -23,7 +23,7 @@ use Rattle.framing.proofs.Judging.{quiet-fits, quiet-line}
 use Rattle.chunked.specs.declared.Ending.{Ending}
 use Rattle.chunked.specs.declared.Ending.the-variants as Ending
 use Rattle.framing.specs.declared.Whole.{Whole}
-use Rattle.chunked.specs.helpers.Passes.{At, Last, answer-of}
+use Rattle.chunked.specs.helpers.Passes.{At, Last, ending-answer}
 use Rattle.framing.proofs.Rooms.{Fits, ShortLine}
 
 pub begins : (room : ℕ) → judge room start ≡ none
@@ -130,13 +130,13 @@ module _ {room : ℕ} {xs : List ℕ} where
       → Framing.refused m i ≡ decode room xs → Last room xs t e
   last-refused {t} f e = subst (Last room xs t) (sym f) (record { is = e; closing = tt })
 
-  pub last-whole : {t n k : ℕ} → k + 2 ≤ n → answer-of t (Ending.Whole n k) ≡ decode room xs → Last room xs t (Ending.Whole n k)
+  pub last-whole : {t n k : ℕ} → k + 2 ≤ n → ending-answer t (Ending.Whole n k) ≡ decode room xs → Last room xs t (Ending.Whole n k)
   last-whole h e = record { is = e; closing = h }
 
   pub last-length : {t : ℕ} {e : Ending} → Last room xs t e → (w : Whole) → decode room xs ≡ Framing.whole w → w .length ≡ t
   last-length {t} {e} l w h = go e (l .is ∙ h)
     where
-      go : (e : Ending) → answer-of t e ≡ Framing.whole w → w .length ≡ t
+      go : (e : Ending) → ending-answer t e ≡ Framing.whole w → w .length ≡ t
       go (Ending.Whole n k) z = cc
       go Ending.More z = let z : _≡_ {A = ℕ} 0 1 = cc in absurd (omega arith)
       go (Ending.Refused r) z = let z : _≡_ {A = ℕ} 0 1 = cc in absurd (omega arith)

@@ -11,7 +11,7 @@ ghost use Rattle.framing.specs.Reading.{decode-output, decode as decodeIn};
 ghost use Rattle.chunked.specs.Verdict.{verdict};
 ghost use Rattle.chunked.specs.declared.Ending.the-variants.{Refused};
 ghost use Rattle.positions.specs.helpers.Ends.{cr-byte};
-ghost use Rattle.chunked.specs.helpers.Passes.{answer-of, Closing};
+ghost use Rattle.chunked.specs.helpers.Passes.{ending-answer, Closing};
 ghost use Rattle.chunked.specs.helpers.Passes.{At, WholeOf, SizeRead, LineRead, Last, LineAt, Known, ChunkAt, ChunkRead};
 use framing::ExtPos;
 use framing::LINE_LIMIT;
@@ -89,7 +89,7 @@ fn decide(input: &[u8], room: usize) -> Answer
             total += last.size;
         } else {
             match chunk(input, at, total, room) {
-                Found::Over(ending) => return answer_of(ending, total),
+                Found::Over(ending) => return ending_answer(ending, total),
                 Found::Data { size, start } => {
                     let length = start - at;
                     last = LastLine { at, length, size };
@@ -171,9 +171,9 @@ fn again(input: &[u8], last: LastLine, at: usize, left: usize) -> bool
 }
 
 // The answer where reading ends so, behind `total` bytes of data.
-fn answer_of(ending: Ending, total: usize) -> Answer
+fn ending_answer(ending: Ending, total: usize) -> Answer
     requires { ⌜ Closing ending ⌝ }
-    ensures { λ r. ⌜ verdict r ≡ answer-of total ending ⌝ }
+    ensures { λ r. ⌜ verdict r ≡ ending-answer total ending ⌝ }
 {
     match ending {
         Ending::Whole { taken, trailer } => Answer::Whole(Whole {

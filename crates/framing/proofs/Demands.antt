@@ -1,4 +1,4 @@
--- Demands 2 and 3 for chunked bodies, over the grammar, in every room. The words quoted are those of document 01 and of the demands.
+-- Demands 2 and 3 for chunked bodies, over the grammar, in every room. The words quoted are those of documents 01 and 02.
 use mathlib.Core.Path.{_≡_, refl, _∙_, ap}
 use mathlib.Core.List.{List, _∷_, _++_}
 use mathlib.Core.Logic.{_↔_}
@@ -9,7 +9,7 @@ use lib.Seq.{length-take-le}
 use Rattle.grammar.specs.Refusals.{MALFORMED, LINE_TOO_LONG, TRAILER_TOO_LONG, BODY_TOO_LARGE, FORBIDDEN_FIELD}
 use Rattle.framing.specs.declared.Whole.{Whole}
 use Rattle.framing.specs.Grammar as G
-use Rattle.framing.specs.Grammar.{Trailer, Body, HasTrailer, Broken, limits, chunked}
+use Rattle.framing.specs.Grammar.{crlf, Body, HasTrailer, Broken, limits, chunked}
 use Rattle.framing.specs.Answer as Answer
 use Rattle.framing.specs.Answer.{Answer}
 use Rattle.framing.specs.Demand.{rank, Among, Live, BeginsWhole, Unfinished, Malformed, Over, Decodes, Nothing}
@@ -57,16 +57,16 @@ module _ (r : ℕ) (s : List ℕ) where
   pub taken : {w : Whole} {d : List ℕ} (b : BeginsWhole (chunked limits) r s w d) → w .taken ≡ b .count
   taken b = b .tells .taken ∙ length-take-le (b .count) s (b .inside)
 
-  -- "The record of a whole body gains the trailer's start and length": there stand the bytes of the trailer of the body that was read,
-  -- all its lines
-  pub trailer-bytes : {w : Whole} {d : List ℕ} (b : BeginsWhole (chunked limits) r s w d)
-      → (take (w .«trailer_length») (drop (w .«trailer_start») s) ≡ b .tells .trailer) × Trailer (b .tells .trailer)
-  trailer-bytes b = Trailers.told-bytes s (b .count) (b .tells)
+  -- "The record of a whole body gains the trailer's start and length": the bytes there are the trailer of the body that was read, all
+  -- its lines
+  pub trailer-bytes : {w : Whole} {d : List ℕ} → BeginsWhole (chunked limits) r s w d
+      → HasTrailer (take (w .taken) s) (w .«trailer_start») (take (w .«trailer_length») (drop (w .«trailer_start») s))
+  trailer-bytes b = Trailers.told-trailer s (b .count) (b .inside) (b .tells)
 
-  -- and behind it the closing CRLF: "Without one, the start is the closing CRLF and the length 0"
+  -- and the two behind it, the last that are taken, the closing CRLF: "Without one, the start is the closing CRLF and the length 0"
   pub trailer-closes : {w : Whole} {d : List ℕ} → BeginsWhole (chunked limits) r s w d
-      → w .«trailer_start» + w .«trailer_length» + 2 ≡ w .taken
-  trailer-closes b = Trailers.told-closes (b .tells)
+      → (take 2 (drop (w .«trailer_start» + w .«trailer_length») s) ≡ crlf) × (w .«trailer_start» + w .«trailer_length» + 2 ≡ w .taken)
+  trailer-closes b = Trailers.told-close s (b .count) (b .inside) (b .tells)
 
   -- "more": no limit is broken, no beginning is a body, and some continuation makes one
   pub more : (decode r s ≡ Answer.more) ↔ Unfinished (chunked limits) r s

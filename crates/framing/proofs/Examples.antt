@@ -5,7 +5,7 @@ use Rattle.grammar.specs.Text.{bytes}
 use Rattle.octets.specs.Bytes.{hex?, token?, content?}
 use Rattle.framing.specs.Answer.{whole, more, refused, Answer}
 use Rattle.framing.specs.declared.Whole.{Whole}
-use Rattle.framing.specs.Reading.{judge, found, decode}
+use Rattle.framing.specs.Reading.{judge, decode}
 use Rattle.framing.specs.helpers.Names.{texts, going-on}
 use Rattle.framing.specs.helpers.Machine.{lineStep, lineLive, lineEnds, leaveLine, enterChunk, step, emit, live, done, pastRoom}
 use Rattle.framing.specs.helpers.Scan.{answer}

@@ -1,7 +1,7 @@
 -- The limit on names in the trailer: the machine finds it where the grammar says that it is broken, and nowhere else. For any list of
 -- names without a colon, up to `forbidden-field-found`.
 use mathlib.Core.Path.{_≡_, refl, sym, _∙_, ap, ap₂, subst}
-use mathlib.Core.Bool.{Bool, true, false, cond}
+use mathlib.Core.Bool.{Bool, true, false}
 use mathlib.Core.List.{List, [], _∷_, _++_, append-assoc, append-nil}
 use Prim.Native.Nat.{ℕ, suc, _+_, _*_, _<_}
 use native.Mathlib.Nat.{zero-mod, mod-eq-of-lt, div-eq-of-lt, add-mul-div-left, add-mul-mod-self-left}
@@ -16,7 +16,7 @@ use Rattle.framing.specs.declared.TrailPos.the-variants.{LineStart, Name
 use Rattle.framing.specs.declared.State.{State}
 use Rattle.framing.specs.Grammar as G
 use Rattle.framing.specs.Grammar.{Many, Token, Trailer, InTrailer, AtColon, Named, Broken, forbidden}
-use Rattle.framing.specs.helpers.Names.{texts, every, going-on, width, rows, count, staying}
+use Rattle.framing.specs.helpers.Names.{texts, every, going-on, width, bits, count, staying}
 use Rattle.framing.specs.helpers.Trailer.{inName, behindName, inValue, namedStep, named}
 use Rattle.framing.specs.helpers.Machine.{TrailerAt, trailer, live, atForbidden, forbiddenField}
 use Rattle.framing.specs.helpers.Scan.{run}
@@ -35,8 +35,8 @@ module _ (names : List (List ℕ)) where
   pub record Agrees (n : List ℕ) (q : TrailerAt) : Type 0 where
     pub code : ℕ
     pub is : q ≡ Name code
-    pub agree : rows names code ≡ agreeing (texts names) n
-    pub counts : eqb (rows names code) 0 ≡ false → count names code ≡ length n
+    pub agree : bits names code ≡ agreeing (texts names) n
+    pub counts : eqb (bits names code) 0 ≡ false → count names code ≡ length n
 
   in-name : (n : List ℕ) (m k : ℕ) → m ≡ agreeing (texts names) n → (eqb m 0 ≡ false → k ≡ length n) → Agrees n (inName names m k)
   in-name n m k e c = to-cond (Agrees n) (eqb m 0)
@@ -44,7 +44,7 @@ module _ (names : List (List ℕ)) where
         code = 0;
         is = refl;
         agree = none ∙ sym (eqb-true m 0 z) ∙ e;
-        counts = λ h. false-true (sym h ∙ eq-eqb (rows names 0) 0 none);
+        counts = λ h. false-true (sym h ∙ eq-eqb (bits names 0) 0 none);
       })
       (λ _. record {
         code = m + width names * k;
@@ -53,13 +53,13 @@ module _ (names : List (List ℕ)) where
         counts = λ h. high ∙ c (ap (λ (i : ℕ). eqb i 0) (sym low) ∙ h);
       })
     where
-      none : rows names 0 ≡ 0
+      none : bits names 0 ≡ 0
       none = zero-mod (width names)
 
       few : m < width names
       few = omega (arith, e, agreeing-few names n)
 
-      low : rows names (m + width names * k) ≡ m
+      low : bits names (m + width names * k) ≡ m
       low = add-mul-mod-self-left m (width names) k ∙ mod-eq-of-lt few
 
       high : count names (m + width names * k) ≡ k
@@ -98,8 +98,8 @@ module _ (names : List (List ℕ)) where
       let m : ℕ = staying names (a .code) b in
       subst (λ (z : TrailerAt). Agrees (n ++ (b ∷ [])) (namedStep names z b)) (sym (a .is))
       (rw h (in-name (n ++ (b ∷ [])) m (suc (count names (a .code)))
-      (goes-on n (rows names (a .code)) (count names (a .code)) b (a .agree) (a .counts))
-      (λ e. ap suc (a .counts (was-in (rows names (a .code)) (count names (a .code)) b e)) ∙ sym (counted n b))))
+      (goes-on n (bits names (a .code)) (count names (a .code)) b (a .agree) (a .counts))
+      (λ e. ap suc (a .counts (was-in (bits names (a .code)) (count names (a .code)) b e)) ∙ sym (counted n b))))
     where
       counted : (n : List ℕ) (b : ℕ) → length (n ++ (b ∷ [])) ≡ suc (length n)
       counted n b = omega (arith, length-append n (b ∷ []))
@@ -109,7 +109,7 @@ module _ (names : List (List ℕ)) where
   unfolding token?
   behind-colon n q a =
       ap (λ (z : TrailerAt). namedStep names z 58) (a .is)
-      ∙ ap behindName (goes-on n (rows names (a .code)) (count names (a .code)) 58 (a .agree) (a .counts))
+      ∙ ap behindName (goes-on n (bits names (a .code)) (count names (a .code)) 58 (a .agree) (a .counts))
 
   -- ## From the grammar to the machine
   more-bytes : (n : List ℕ) (q : TrailerAt) (xs : List ℕ) → Agrees n q → Many token? xs → Agrees (n ++ xs) (run (namedStep names) q xs)

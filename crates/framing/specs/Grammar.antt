@@ -1,4 +1,4 @@
--- Chunked bodies by RFC 2616 3.6.1 with document 01's rules, limits aside: which bytes are one, and what data it carries.
+-- Chunked bodies by RFC 2616 3.6.1 with the rules of documents 01 and 02, limits aside: which bytes are one, and what data it carries.
 -- Then the part of a body in which a byte stands, and the limits. Definitions alone; no machine stands here.
 use mathlib.Core.Path.{_≡_}
 use mathlib.Core.Bool.{Bool, true}

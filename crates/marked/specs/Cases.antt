@@ -27,7 +27,7 @@ pub data Case : Type 0 where
   qvalue-is : (text : String) (thousandths : ℕ) → Case
   qvalue-refused : (text : String) (number place : ℕ) → Case
   urls-equal : (text other : String) → Case
-  body-whole : (room : ℕ) (text : String) (taken length start trailed : ℕ) → Case
+  body-whole : (room : ℕ) (text : String) (taken length trailer-start trailer-length : ℕ) → Case
   body-refused : (room : ℕ) (text : String) (number place : ℕ) → Case
 
 abbrev pub Holds : Case → Type 0

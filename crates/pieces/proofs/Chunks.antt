@@ -1,27 +1,26 @@
 -- Chunks that lie whole in the bytes of a call, passed over one behind the other.
 use mathlib.Core.Path.{_≡_, refl, sym, _∙_, ap, ap₂, subst}
-use mathlib.Core.Bool.{false}
 use mathlib.Core.List.{List, [], _∷_, _++_, append-nil}
-use Prim.Native.Nat.{ℕ, suc, _+_, _-_, _≤_}
+use Prim.Native.Nat.{ℕ, _+_, _-_, _≤_}
 use native.Mathlib.Omega.{arith}
 use lib.ListN.{length, take, drop, length-drop}
 use lib.Seq.{take-add, drop-drop, length-take-le}
-use Rattle.text.specs.Placing.{placed, behind}
+use Rattle.text.specs.Placing.{placed}
 use Rattle.text.proofs.Placing.{Put, put-none, put-then, behind-fits, placed-length}
 use Rattle.framing.specs.declared.LinePos.the-variants.{First}
-use Rattle.framing.specs.declared.State.{State}
-use Rattle.framing.specs.declared.State.the-variants.{Line, Data}
+use Rattle.framing.specs.declared.State.the-variants.{Line}
 use Rattle.framing.proofs.Passing as Framing
 use Rattle.framing.proofs.Turns.{quiet-first}
+use Rattle.chunked.specs.helpers.Passes.{CrlfAt}
 use Rattle.pieces.specs.Grammar.{FRAMED_LIMIT}
-use Rattle.pieces.specs.Reading.{over?, advance, gathered, filled}
+use Rattle.pieces.specs.Reading.{filled}
 use Rattle.pieces.specs.declared.Pieces.{Pieces}
-use Rattle.pieces.specs.helpers.Runs.{Sound, Going, Passed, PlainSize, Closed}
+use Rattle.pieces.specs.helpers.Runs.{Going, Passed, PlainSize}
 use Rattle.pieces.proofs.Passing.{Run, runs}
 use Rattle.pieces.proofs.PlainLines.{take-crlf}
 
 -- over one
-chunk-passes : (room : ℕ) {bytes : List ℕ} {t v n : ℕ} → t ≤ room → PlainSize bytes (room - t) v n → Closed bytes (n + v)
+chunk-passes : (room : ℕ) {bytes : List ℕ} {t v n : ℕ} → t ≤ room → PlainSize bytes (room - t) v n → CrlfAt bytes (n + v)
     → Framing.Octets (take v (drop n bytes))
     → Framing.Passes room (Line First 0 t) (take (n + v + 2) bytes) (take v (drop n bytes)) (Line First 0 (t + v))
 chunk-passes room {bytes} {t} {v} {n} le l c o =
@@ -61,7 +60,7 @@ module _ {room : ℕ} {bytes old : List ℕ} {t at total : ℕ} {new : List ℕ}
   total-fits = omega (arith, h .put .fits, h .put .ends)
 
   pub chunks-on : Framing.Octets bytes → {v n : ℕ} {new′ : List ℕ} → PlainSize (drop at bytes) (room - total) v n
-      → Closed (drop at bytes) (n + v) → new′ ≡ placed new total (take v (drop (at + n) bytes))
+      → CrlfAt (drop at bytes) (n + v) → new′ ≡ placed new total (take v (drop (at + n) bytes))
       → Chunks room bytes old t (at + n + v + 2) (total + v) new′
   chunks-on o {v} {n} {new′} l c w =
       let ys : List ℕ = drop at bytes in

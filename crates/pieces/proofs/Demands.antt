@@ -13,7 +13,7 @@ use Rattle.grammar.specs.Refusals.{FORBIDDEN_FIELD, FRAMED_TOO_LONG}
 use Rattle.framing.specs.declared.Whole.{Whole}
 use Rattle.framing.specs.Answer.{whole, refused}
 use Rattle.framing.specs.Demand.{rank, Decodes}
-use Rattle.framing.specs.Grammar.{Trailer, SoFar}
+use Rattle.framing.specs.Grammar.{crlf, HasTrailer, SoFar}
 use Rattle.framing.specs.Reading as Framing
 use Rattle.framing.proofs.SoFar as SoFar
 use Rattle.framing.proofs.Trailers as Trailers
@@ -75,14 +75,17 @@ module _ (room : ℕ) (cs : List Call) where
       subst (λ (s : Pieces). w .taken ≡ s .taken) (sym (Sequences.reached room cs))
       (Decoding.one-count room (offers room cs) w (sym answer-so-far ∙ e))
 
-  -- where the trailer of a whole body is said to stand, there it stands among the bytes offered, all its lines; behind it the closing CRLF
+  -- where the trailer of a whole body is said to stand, there stands the trailer of the bytes taken, among those offered; behind it, as
+  -- the last two, the closing CRLF
   pub trailer : (w : Whole) → answer-of (after (begun room) cs) ≡ whole w
-      → Trailer (take (w .«trailer_length») (drop (w .«trailer_start») (offers room cs)))
+      → HasTrailer (take (w .taken) (offers room cs)) (w .«trailer_start»)
+      (take (w .«trailer_length») (drop (w .«trailer_start») (offers room cs)))
+      × (take 2 (drop (w .«trailer_start» + w .«trailer_length») (offers room cs)) ≡ crlf)
       × (w .«trailer_start» + w .«trailer_length» + 2 ≡ w .taken)
   trailer w e =
       let b = demands .whole room (offers room cs) w .0 (sym answer-so-far ∙ e) .1 in
-      let t = Trailers.told-bytes (offers room cs) (b .count) (b .tells) in
-      (subst Trailer (sym (t .0)) (t .1), Trailers.told-closes (b .tells))
+      let c = Trailers.told-close (offers room cs) (b .count) (b .inside) (b .tells) in
+      (Trailers.told-trailer (offers room cs) (b .count) (b .inside) (b .tells), c .0, c .1)
 
   -- "after "more" or a refusal in the body the output holds the data so far at its front .., the rest as lent": behind any calls, and where
   -- the body is whole too. Shuts out a reader that writes data of a refused call twice

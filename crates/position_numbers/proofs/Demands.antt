@@ -24,7 +24,7 @@ line-kept v = (refl, refl, λ e. go e)
     go ExtPos.Pair = refl
     go ExtPos.Dead = refl
 
-trail-kept : (p : TrailPos) → trail-of (name-of p) (trail-number p) ≡ p
+trail-kept : (p : TrailPos) → trail-of (trail-number p) (name-of p) ≡ p
 trail-kept TrailPos.LineStart = refl
 trail-kept (TrailPos.Name c) = refl
 trail-kept TrailPos.Value = refl

@@ -38,24 +38,28 @@ name-of TrailPos.Forbidden = 0
 name-of TrailPos.Lf = 0
 name-of TrailPos.Dead = 0
 
+-- without a name
+abbrev pub as-numbers : ℕ → ℕ → ℕ → ℕ → ℕ → Numbers
+as-numbers p q v k t = record { position = p; part = q; name = 0; size = v; length = k; total = t }
+
 abbrev pub line-numbers : LinePos → ℕ → ℕ → Numbers
-line-numbers First k t = record { position = 0; part = 0; name = 0; size = 0; length = k; total = t }
-line-numbers (Size v) k t = record { position = 0; part = 1; name = 0; size = v; length = k; total = t }
-line-numbers (Ext v e) k t = record { position = 0; part = ext-number e; name = 0; size = v; length = k; total = t }
+line-numbers First k t = as-numbers 0 0 0 k t
+line-numbers (Size v) k t = as-numbers 0 1 v k t
+line-numbers (Ext v e) k t = as-numbers 0 (ext-number e) v k t
 
 abbrev pub trail-numbers : TrailPos → ℕ → ℕ → Numbers
 trail-numbers p k t = record { position = 5; part = trail-number p; name = name-of p; size = 0; length = k; total = t }
 
 abbrev pub numbers-of : State → Numbers
 numbers-of (Line p k t) = line-numbers p k t
-numbers-of (LineFeed v t) = record { position = 1; part = 0; name = 0; size = v; length = 0; total = t }
-numbers-of (Data m t) = record { position = 2; part = 0; name = 0; size = m; length = 0; total = t }
-numbers-of (DataCr t) = record { position = 3; part = 0; name = 0; size = 0; length = 0; total = t }
-numbers-of (DataLf t) = record { position = 4; part = 0; name = 0; size = 0; length = 0; total = t }
+numbers-of (LineFeed v t) = as-numbers 1 0 v 0 t
+numbers-of (Data m t) = as-numbers 2 0 m 0 t
+numbers-of (DataCr t) = as-numbers 3 0 0 0 t
+numbers-of (DataLf t) = as-numbers 4 0 0 0 t
 numbers-of (Trail p k t) = trail-numbers p k t
-numbers-of (EndLf t n) = record { position = 6; part = 0; name = 0; size = 0; length = n; total = t }
-numbers-of (Done t n) = record { position = 7; part = 0; name = 0; size = 0; length = n; total = t }
-numbers-of Dead = record { position = 8; part = 0; name = 0; size = 0; length = 0; total = 0 }
+numbers-of (EndLf t n) = as-numbers 6 0 0 n t
+numbers-of (Done t n) = as-numbers 7 0 0 n t
+numbers-of Dead = as-numbers 8 0 0 0 0
 
 -- ## And back: numbers that stand for no case are Dead
 -- the n-th of the cases, from 0; the other one where they are fewer
@@ -80,12 +84,12 @@ abbrev pub trails : ℕ → List TrailPos
 trails name = TrailPos.LineStart ∷ TrailPos.Name name ∷ TrailPos.Value ∷ TrailPos.Forbidden ∷ TrailPos.Lf ∷ []
 
 abbrev pub trail-of : ℕ → ℕ → TrailPos
-trail-of name n = nth n (trails name) TrailPos.Dead
+trail-of n name = nth n (trails name) TrailPos.Dead
 
 abbrev pub places : Numbers → List State
 places n =
     Line (line-of (n .part) (n .size)) (n .length) (n .total) ∷ LineFeed (n .size) (n .total) ∷ Data (n .size) (n .total) ∷
-    DataCr (n .total) ∷ DataLf (n .total) ∷ Trail (trail-of (n .name) (n .part)) (n .length) (n .total) ∷
+    DataCr (n .total) ∷ DataLf (n .total) ∷ Trail (trail-of (n .part) (n .name)) (n .length) (n .total) ∷
     EndLf (n .total) (n .length) ∷ Done (n .total) (n .length) ∷ []
 
 abbrev pub place-of : Numbers → State

@@ -1,7 +1,7 @@
 // Where a body stands as numbers, and back: for whoever keeps a position outside.
 ghost use mathlib.Core.Path.{_≡_};
 ghost use Rattle.position_numbers.specs.Numbers.{ext-number, trail-number, name-of, line-numbers, trail-numbers};
-ghost use Rattle.position_numbers.specs.Numbers.{numbers-of};
+ghost use Rattle.position_numbers.specs.Numbers.{as-numbers, numbers-of};
 ghost use Rattle.position_numbers.specs.Numbers.{ext-of, line-of, trail-of, place-of};
 use framing::ExtPos;
 use framing::LinePos;
@@ -58,7 +58,7 @@ fn line_numbers(position: LinePos, length: usize, before: usize) -> Numbers
 }
 
 fn as_numbers(position: u8, part: u8, size: usize, length: usize, total: usize) -> Numbers
-    ensures { λ r. ⌜ r ≡ record { position = position; part = part; name = 0; size = size; length = length; total = total } ⌝ }
+    ensures { λ r. ⌜ r ≡ as-numbers position part size length total ⌝ }
 {
     Numbers {
         position,
@@ -195,7 +195,7 @@ fn ext_of(part: u8) -> ExtPos
 
 // A number that stands for no position is that of none that goes on.
 fn trail_of(part: u8, name: u8) -> TrailPos
-    ensures { λ r. ⌜ r ≡ trail-of name part ⌝ }
+    ensures { λ r. ⌜ r ≡ trail-of part name ⌝ }
 {
     match part {
         0 => TrailPos::LineStart,

@@ -1,11 +1,12 @@
 // Where the extensions of a chunk line and the trailer of a body stand, a byte at a time: what every reader of bodies asks.
 ghost use mathlib.Core.Path.{_≡_};
 ghost use mathlib.Core.Bool.{cond, _&&_};
-ghost use Prim.Native.Nat.{suc, _<_};
+ghost use Prim.Native.Nat.{suc, _<_, _≤_};
 ghost use lib.Dec.{eqb};
 ghost use Rattle.framing.specs.helpers.Extensions.{extStep, extEnds, extLive};
 ghost use Rattle.framing.specs.declared.TrailPos.the-variants.{Name};
 ghost use Rattle.framing.specs.Grammar.{forbidden};
+ghost use Rattle.framing.specs.helpers.Names.{every};
 ghost use Rattle.framing.specs.helpers.Trailer.{trailer, inName, inValue, atForbidden};
 ghost use Rattle.positions.specs.helpers.Ends.{cr-byte};
 use framing::ExtPos;
@@ -92,7 +93,7 @@ pub fn trail_step(pos: TrailPos, byte: u8) -> TrailPos
     match pos {
         TrailPos::LineStart => {
             if octets::is_token(byte) {
-                return name_at(trailer_names::agreeing(EVERY, 0, byte), 0);
+                return name_at(trailer_names::going_on(EVERY, 0, byte), 0);
             }
             dead
         }
@@ -109,29 +110,29 @@ fn name_step(agreed: u8, byte: u8) -> TrailPos
     ensures { λ r. ⌜ r ≡ trailer .next (Name agreed) byte ⌝ }
 {
     let dead = TrailPos::Dead;
-    let rows = agreed % WIDTH;
-    if rows == 0 {
+    let bits = agreed % WIDTH;
+    if bits == 0 {
         let value = pick_trail(byte == b':', TrailPos::Value, dead);
         let name = TrailPos::Name { agreed: 0 };
         return pick_trail(octets::is_token(byte), name, value);
     }
     let length = agreed / WIDTH;
-    let left = trailer_names::agreeing(rows, length, byte);
-    let behind = pick_trail(left == 0, TrailPos::Value, TrailPos::Forbidden);
+    let on = trailer_names::going_on(bits, length, byte);
+    let behind = pick_trail(on == 0, TrailPos::Value, TrailPos::Forbidden);
     let other = pick_trail(byte == b':', behind, dead);
-    pick_trail(octets::is_token(byte), name_at(left, length), other)
+    pick_trail(octets::is_token(byte), name_at(on, length), other)
 }
 
-// In a name, with which those in `left` agree behind `length` bytes and one more.
-fn name_at(left: u8, length: u8) -> TrailPos
-    requires { ⌜ (left < 8) × ((left ≡ 0 → ⊥) → length < 18) ⌝ }
-    ensures { λ r. ⌜ r ≡ inName forbidden left (suc length) ⌝ }
+// In a name, with which those in `bits` agree behind `length` bytes and one more. With its colon the longest of them has 18 bytes.
+fn name_at(bits: u8, length: u8) -> TrailPos
+    requires { ⌜ (bits ≤ every forbidden) × ((bits ≡ 0 → ⊥) → length < 18) ⌝ }
+    ensures { λ r. ⌜ r ≡ inName forbidden bits (suc length) ⌝ }
 {
-    if left == 0 {
+    if bits == 0 {
         return TrailPos::Name { agreed: 0 };
     }
     TrailPos::Name {
-        agreed: left + WIDTH * (length + 1),
+        agreed: bits + WIDTH * (length + 1),
     }
 }
 
@@ -164,12 +165,8 @@ pub fn is_forbidden(pos: TrailPos) -> bool
     ensures { λ r. ⌜ r ≡ atForbidden pos ⌝ }
 {
     match pos {
-        TrailPos::LineStart => false,
-        TrailPos::Name { agreed: _ } => false,
-        TrailPos::Value => false,
         TrailPos::Forbidden => true,
-        TrailPos::Lf => false,
-        TrailPos::Dead => false,
+        _ => false,
     }
 }
 

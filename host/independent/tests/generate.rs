@@ -1,4 +1,4 @@
-//! The generated inputs reach each refusal that document 01 gives to their kind, and no other; the pairs reach each
+//! The generated inputs reach each refusal that documents 01 and 02 give to their kind, and no other; the pairs reach each
 //! outcome; the cuttings add up.
 
 use independent::chunked::{decode, Decoded};

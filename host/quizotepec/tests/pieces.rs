@@ -75,7 +75,7 @@ impl Reading {
     fn start(room: usize) -> Self {
         // SAFETY: it takes a number.
         let state = unsafe { raw::qz_pieces_start(room) };
-        assert_eq!(fields(state), [0, 0, 0, 0, 0, 0, 0, 0, room, 0]);
+        assert_eq!(fields(state), [0, 0, 0, 0, 0, 0, 0, room, 0]);
         Reading { state, out: Lent::new(room), theirs: Theirs::start(room), their_out: Lent::new(room) }
     }
 

@@ -75,11 +75,11 @@ loop-again c =
 chunk-requires : tie.Need-chunk-requires Inv-loop μ-loop
 chunk-requires c κs = c .before .before .loop .inv .0
 
-answer-of-requires : tie.Need-answer-of-requires Inv-loop μ-loop
-answer-of-requires c κs = found (c .before .before .before) (c .before .ending .given .1) .closing
+ending-answer-requires : tie.Need-ending-answer-requires Inv-loop μ-loop
+ending-answer-requires c κs = found (c .before .before .before) (c .before .ending .given .1) .closing
 
 returns : tie.Need-returns Inv-loop μ-loop
-returns c = c .answer-of .ensures ∙ found (c .before .before .before .before) (c .before .before .ending .given .1) .is
+returns c = c .ending-answer .ensures ∙ found (c .before .before .before .before) (c .before .before .ending .given .1) .is
 
 sub-length : tie.Need-sub-length Inv-loop μ-loop
 sub-length c = found (c .before .before .before) (c .before .size .given .1) .0
@@ -129,7 +129,7 @@ decide-spec =
     loop-again
     chunk-requires
     (λ c. search needs)
-    answer-of-requires
+    ending-answer-requires
     returns
     (λ c. search needs)
     sub-length

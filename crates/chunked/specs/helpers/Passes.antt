@@ -39,10 +39,10 @@ pub record Copied (xs old new : List ℕ) (i o : ℕ) : Type 0 where
   pub wrote : new ≡ dataTo xs i ++ drop o old
 
 -- what is answered where reading ends so, behind t bytes of data
-abbrev pub answer-of : ℕ → Ending → Answer Whole
-answer-of t (Ending.Whole n k) = whole (record { taken = n; length = t; «trailer_start» = n - 2 - k; «trailer_length» = k })
-answer-of t Ending.More = more
-answer-of t (Ending.Refused r) = refused (r .number) (r .place)
+abbrev pub ending-answer : ℕ → Ending → Answer Whole
+ending-answer t (Ending.Whole n k) = whole (record { taken = n; length = t; «trailer_start» = n - 2 - k; «trailer_length» = k })
+ending-answer t Ending.More = more
+ending-answer t (Ending.Refused r) = refused (r .number) (r .place)
 
 -- the trailer and CR LF are among the bytes
 abbrev pub Closing : Ending → Type 0
@@ -52,7 +52,7 @@ Closing (Ending.Refused r) = Unit {0}
 
 -- reading ends so, and no data follows the t bytes so far
 pub record Last (room : ℕ) (xs : List ℕ) (t : ℕ) (e : Ending) : Type 0 where
-  pub is : answer-of t e ≡ decode room xs
+  pub is : ending-answer t e ≡ decode room xs
   pub closing : Closing e
 
 -- the answer is whole, with so many bytes of data

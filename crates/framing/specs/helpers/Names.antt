@@ -1,5 +1,5 @@
--- How far a name agrees with those of a list, letter case ignored, as two numbers: the names that agree with it so far, as bits, and how
--- many bytes it has. For any list of names.
+-- How far a name agrees with those of a list, letter case ignored: the names that agree with it so far, as bits, and how many bytes it
+-- has; both in one number. For any list of names.
 use mathlib.Core.Bool.{Bool, false, cond, _&&_}
 use mathlib.Core.List.{List, [], _∷_, _++_}
 use Prim.Native.Nat.{ℕ, zero, suc, _+_, _*_, _/_, _%_}
@@ -42,12 +42,12 @@ going-on (f ∷ fs) m k b = bit (odd m && has f k b) + 2 * going-on fs (m / 2) k
 abbrev pub width : List (List ℕ) → ℕ
 width names = suc (every names)
 
-abbrev pub rows : List (List ℕ) → ℕ → ℕ
-rows names c = c % width names
+abbrev pub bits : List (List ℕ) → ℕ → ℕ
+bits names c = c % width names
 
 abbrev pub count : List (List ℕ) → ℕ → ℕ
 count names c = c / width names
 
 -- those that go on with b, of the names in such a number
 abbrev pub staying : List (List ℕ) → ℕ → ℕ → ℕ
-staying names c b = going-on (texts names) (rows names c) (count names c) b
+staying names c b = going-on (texts names) (bits names c) (count names c) b

@@ -3,12 +3,13 @@ use mathlib.Core.Path.{_≡_}
 use mathlib.Core.Bool.{true, false}
 use mathlib.Core.List.{List, [], _∷_, _++_}
 use Prim.Native.Nat.{ℕ, _+_, _<_, _≤_}
-use lib.ListN.{length, getD, take}
+use lib.ListN.{length, take}
 use Rattle.text.specs.Placing.{placed}
 use Rattle.framing.specs.Grammar as G
 use Rattle.framing.specs.Grammar.{crlf, Many, valueFrom, LINE_LIMIT}
 use Rattle.octets.specs.Bytes.{hex?}
 use Rattle.transition.specs.Moving.{possible}
+use Rattle.chunked.specs.helpers.Passes.{CrlfAt}
 use Rattle.pieces.specs.Grammar.{FRAMED_LIMIT}
 use Rattle.pieces.specs.Reading.{listed, over?, advance, gathered, filled}
 use Rattle.pieces.specs.declared.Pieces.{Pieces}
@@ -71,12 +72,6 @@ PlainLine bytes left (Plain.Size v n) = PlainSize bytes left v n
 PlainLine bytes left Plain.Other = Unit {0}
 
 -- ## A chunk that lies whole in the bytes
--- CR LF stands at a place
-pub record Closed (bytes : List ℕ) (at : ℕ) : Type 0 where
-  pub inside : at + 2 ≤ length bytes
-  pub cr : getD bytes at 0 ≡ 13
-  pub lf : getD bytes (at + 1) 0 ≡ 10
-
 abbrev pub PlainChunk : List ℕ → ℕ → Plain → Type 0
-PlainChunk bytes left (Plain.Size v n) = PlainSize bytes left v n × Closed bytes (n + v)
+PlainChunk bytes left (Plain.Size v n) = PlainSize bytes left v n × CrlfAt bytes (n + v)
 PlainChunk bytes left Plain.Other = Unit {0}

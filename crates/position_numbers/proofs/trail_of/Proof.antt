@@ -11,7 +11,7 @@ use Rattle.position_numbers.proofs.trail_of.Tie as tie
 
 -- the case of a number
 abbrev numbered : tie.Start → ℕ → TrailPos
-numbered a n = trail-of (a .args .name) n
+numbered a n = trail-of n (a .args .name)
 
 other : tie.Need-returns-6
 other c =

@@ -23,7 +23,7 @@ add-t6 c = omega (arith, c .before .pre .0, c .before .pre .1 (c .if1 .left))
 returns-2 : tie.Need-returns-2
 returns-2 c =
     let x = c .before .args in
-    rw (ne-eqb _ _ (c .if1 .left)) (ap (λ (n : ℕ). TrailPos.Name (x .left + 8 * n)) (add-one (x .length)))
+    rw (ne-eqb _ _ (c .if1 .left)) (ap (λ (n : ℕ). TrailPos.Name (x .bits + 8 * n)) (add-one (x .length)))
 
 pub name-at-spec : {M : Type 1} → statement M
 name-at-spec = tie.close (tie.spec returns add-t4 mul-t5 add-t6 returns-2)

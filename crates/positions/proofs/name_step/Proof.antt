@@ -21,8 +21,8 @@ name-at-requires : tie.Need-name-at-requires
 name-at-requires c κs =
     let a = c .before .before .before in
     let x = a .before .before .args in (
-      omega (arith, a .agreeing .ensures, going-few forbidden (x .agreed % 8) (x .agreed / 8) (x .byte)),
-      λ e. short (x .agreed % 8) (x .agreed / 8) (x .byte) (λ z. e (a .agreeing .ensures ∙ z)),
+      omega (arith, a .going-on .ensures, going-few forbidden (x .agreed % 8) (x .agreed / 8) (x .byte)),
+      λ e. short (x .agreed % 8) (x .agreed / 8) (x .byte) (λ z. e (a .going-on .ensures ∙ z)),
     )
 
 returns-2 : tie.Need-returns-2
@@ -31,7 +31,7 @@ returns-2 c =
     let o = t .before in
     let b = o .before in
     rw (
-      ← (b .before .agreeing .ensures),
+      ← (b .before .going-on .ensures),
       ← (b .pick-trail3 .ensures),
       ← (o .pick-trail4 .ensures),
       ← (t .is-token2 .ensures),

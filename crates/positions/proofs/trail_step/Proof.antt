@@ -10,12 +10,12 @@ use Rattle.positions.proofs.trail_step.Tie as tie
 name-at-requires : tie.Need-name-at-requires
 name-at-requires c κs =
     let x = c .before .before .before .before .before .args in
-    (omega (arith, c .agreeing .ensures, going-few forbidden 7 0 (x .byte)), λ e. omega arith)
+    (omega (arith, c .going-on .ensures, going-few forbidden 7 0 (x .byte)), λ e. omega arith)
 
 returns : tie.Need-returns
 returns c =
     let t = c .before .before .before in
-    rw (t .before .enum-told .given .1, sym (t .is-token .ensures) ∙ c .before .before .if1 .taken, ← (c .before .agreeing .ensures))
+    rw (t .before .enum-told .given .1, sym (t .is-token .ensures) ∙ c .before .before .if1 .taken, ← (c .before .going-on .ensures))
     (c .name-at .ensures)
 
 returns-2 : tie.Need-returns-2

@@ -1,5 +1,5 @@
 -- `trailer_names::agrees` meets its contract.
-use mathlib.Core.Path.{_≡_, refl, sym, _∙_, ap, ap₂}
+use mathlib.Core.Path.{_≡_, refl, sym, _∙_, ap}
 use mathlib.Core.Bool.{Bool, true, false, _&&_}
 use native.Mathlib.Omega.{arith}
 use borrow.Author.Needs.{needs}
@@ -19,12 +19,12 @@ returns c = (λ b e. rw (ne-eqb _ _ (c .if1 .taken)) refl, omega arith)
 returns-2 : tie.Need-returns-2
 returns-2 c =
     let x = c .before .before .args in
-    (λ b e. unset (odd (x .rows)) (has (x .text .now) (x .at) b) (past-end (x .text .now) (x .at) b (omega arith)), omega arith)
+    (λ b e. unset (odd (x .bits)) (has (x .text .now) (x .at) b) (past-end (x .text .now) (x .at) b (omega arith)), omega arith)
 
 returns-3 : tie.Need-returns-3
 returns-3 c =
     let x = c .before .before .before .before .args in (
-      λ b e. unset (odd (x .rows)) (has (x .text .now) (x .at) b)
+      λ b e. unset (odd (x .bits)) (has (x .text .now) (x .at) b)
           (has-byte (x .text .now) (x .at) b (omega arith) ∙ ne-eqb _ _ (λ z. c .if3 .taken (sym z ∙ sym e))),
       omega arith,
     )

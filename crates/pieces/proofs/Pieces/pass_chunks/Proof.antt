@@ -3,13 +3,12 @@ use borrow.Author.Needs.{needs}
 use native.Mathlib.Omega.{arith}
 use mathlib.Core.Path.{_≡_, sym, _∙_, ap, subst}
 use mathlib.Core.List.{List}
-use Prim.Native.Nat.{ℕ, _+_, _-_, _<_, _≤_}
-use lib.ListN.{length, getD, take, drop, length-drop}
+use Prim.Native.Nat.{ℕ, _+_, _-_, _≤_}
+use lib.ListN.{length, take, drop, length-drop}
 use lib.Seq.{take-all}
 use Rattle.text.specs.Placing.{placed}
 use Rattle.text.proofs.Placing.{placed-length}
 use Rattle.pieces.specs.declared.Plain.{Plain}
-use Rattle.pieces.specs.declared.Plain.the-variants as Plain
 use Rattle.pieces.specs.helpers.Runs.{PlainChunk, Passed}
 use Rattle.pieces.proofs.Passing.{line-before}
 use Rattle.pieces.proofs.Chunks.{Chunks, chunks-none, chunks-on, chunks-passed, total-fits}

@@ -1,6 +1,5 @@
 -- `Pieces::pass_lines` meets its contract.
 use borrow.Author.Needs.{needs}
-use native.Mathlib.Omega.{arith}
 use mathlib.Core.Path.{_≡_, sym, _∙_, ap₂, subst}
 use Prim.Native.Nat.{ℕ}
 use Rattle.framing.specs.declared.LinePos.{LinePos}

@@ -1,12 +1,12 @@
--- `trailer_names::agreeing` meets its contract: a line for each name.
-use mathlib.Core.Path.{_≡_, refl, ap, ap₂}
+-- `trailer_names::going_on` meets its contract: a line for each name.
+use mathlib.Core.Path.{ap₂}
 use Prim.Native.Nat.{ℕ, _+_, _*_}
 use native.Mathlib.Omega.{arith}
 use borrow.Author.Needs.{needs}
 use Rattle.grammar.specs.Grammar.{lower}
 use Rattle.framing.specs.helpers.Names.{texts, going-on}
-use Rattle.trailer_names.proofs.agreeing.Statement.{statement}
-use Rattle.trailer_names.proofs.agreeing.Tie as tie
+use Rattle.trailer_names.proofs.going_on.Statement.{statement}
+use Rattle.trailer_names.proofs.going_on.Tie as tie
 
 returns : tie.Need-returns
 unfolding going-on texts lower
@@ -16,8 +16,8 @@ returns c =
     ap₂ (λ (x y : ℕ). x + 2 * y) (c .before .before .before .before .agrees .ensures .0 b small)
     (ap₂ (λ (x y : ℕ). x + 2 * y) (c .before .before .agrees2 .ensures .0 b small) (omega (arith, c .agrees3 .ensures .0 b small)))
 
-pub agreeing-spec : {M : Type 1} → statement M
-agreeing-spec =
+pub going-on-spec : {M : Type 1} → statement M
+going-on-spec =
     tie.close
     (tie.spec
     (λ c κs. search needs)
