@@ -36,12 +36,23 @@ static void show_order(const char *a, const char *b)
     }
 }
 
-static void show_number(const char *what, const char *text, QzNumber n)
+static void show_seconds(const char *text)
 {
-    if (n.number == 0) {
-        printf("%s %s: %lu\n", what, text, (unsigned long)n.value);
+    QzSeconds s = qz_delta_read(bytes(text), strlen(text));
+    if (s.number == 0) {
+        printf("%s seconds: %lu%s\n", text, (unsigned long)s.value, s.capped ? ", capped" : "");
     } else {
-        printf("%s %s: refused, %u at %lu\n", what, text, (unsigned)n.number, (unsigned long)n.place);
+        show_refusal(text, s.number, s.place);
+    }
+}
+
+static void show_qvalue(const char *text)
+{
+    QzQvalue q = qz_qvalue_read(bytes(text), strlen(text));
+    if (q.number == 0) {
+        printf("qvalue %s: %lu\n", text, (unsigned long)q.value);
+    } else {
+        show_refusal(text, q.number, q.place);
     }
 }
 
@@ -234,9 +245,12 @@ int main(void)
     show_version("HTTP/65536.0");
     show_order("HTTP/2.4", "HTTP/2.13");
     show_order("HTTP/1.1", "HTTP/1");
-    show_number("delta", "120", qz_delta_read(bytes("120"), 3));
-    show_number("qvalue", "0.25", qz_qvalue_read(bytes("0.25"), 4));
-    show_number("qvalue", "1.001", qz_qvalue_read(bytes("1.001"), 5));
+    show_seconds("120");
+    show_seconds("2147483647");
+    show_seconds("99999999999");
+    show_seconds("99999999999x");
+    show_qvalue("0.25");
+    show_qvalue("1.001");
 
     show_tags();
 

@@ -131,18 +131,28 @@ QzOrder qz_version_compare(const uint8_t *a, size_t a_len, const uint8_t *b, siz
 /* Writes a version in capitals without leading zeros. */
 QzWritten qz_version_write(uint32_t major, uint32_t minor, uint8_t *out, size_t out_len);
 
-/* A number that was read: seconds, or thousandths. */
-typedef struct QzNumber {
+/* Delta-seconds that were read. */
+typedef struct QzSeconds {
+    uint8_t number;
+    size_t place;
+    /* 2,147,483,648 where they were capped */
+    uint32_t value;
+    /* the number is above 2,147,483,647, and `value` stands for it */
+    bool capped;
+} QzSeconds;
+
+/* A qvalue that was read, in thousandths. */
+typedef struct QzQvalue {
     uint8_t number;
     size_t place;
     uint32_t value;
-} QzNumber;
+} QzQvalue;
 
-/* Delta-seconds, at most 2,147,483,647. */
-QzNumber qz_delta_read(const uint8_t *s, size_t s_len);
+/* Delta-seconds; more than 2,147,483,647 are capped to 2,147,483,648. */
+QzSeconds qz_delta_read(const uint8_t *s, size_t s_len);
 
 /* A qvalue in thousandths, 0 to 1000. */
-QzNumber qz_qvalue_read(const uint8_t *s, size_t s_len);
+QzQvalue qz_qvalue_read(const uint8_t *s, size_t s_len);
 
 /* Writes the shortest form of a qvalue given in thousandths. */
 QzWritten qz_qvalue_write(uint16_t thousandths, uint8_t *out, size_t out_len);
@@ -357,7 +367,7 @@ QzFed qz_pieces_feed(QzPieces pieces, const uint8_t *piece, size_t piece_len, si
 
 /* The version of this header; qz_library_version gives that of the library which is linked. */
 #define QZ_VERSION_MAJOR 0
-#define QZ_VERSION_MINOR 4
+#define QZ_VERSION_MINOR 5
 #define QZ_VERSION_PATCH 0
 
 /* The version of the library. */

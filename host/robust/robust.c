@@ -18,9 +18,10 @@
 #include <unistd.h>
 
 /* The limits that the documents give, and how many refusal numbers there are, 0 included. */
-enum { LINE_LIMIT = 1024, TRAILER_LIMIT = 8192, VALUE_LIMIT = 8192, VERSION_LIMIT = 65535, LEVEL_LIMIT = 8 };
+enum { LINE_LIMIT = 1024, TRAILER_LIMIT = 8192, VALUE_LIMIT = 8192, VERSION_LIMIT = 65535, QVALUE_LIMIT = 1000 };
+enum { LEVEL_LIMIT = 8 };
 enum { NUMBERS = 16 };
-#define SECONDS_LIMIT 2147483647u
+#define SECONDS_CAP 2147483648u
 #define EARLIEST INT64_C(-12212553600)
 #define LATEST INT64_C(253402300799)
 #define WRITER_LIMIT ((size_t)1 << 30)
@@ -77,9 +78,27 @@ static Answer of_QzVersion(QzVersion r, const Call *c)
     return answer(r.number, r.place, c->a.length, r.number == 0 ? kept : r.major == 0 && r.minor == 0);
 }
 
-static Answer of_QzNumber(QzNumber r, const Call *c)
+/* Whether digits are above the limit, told by their count and their text. */
+static bool is_above(Block digits, const char *limit)
 {
-    return answer(r.number, r.place, c->a.length, r.number == 0 ? r.value <= SECONDS_LIMIT : r.value == 0);
+    size_t zeros = 0;
+    while (zeros < digits.length && digits.bytes[zeros] == '0') {
+        zeros++;
+    }
+    size_t length = digits.length - zeros;
+    return length > strlen(limit) || (length == strlen(limit) && memcmp(digits.bytes + zeros, limit, length) > 0);
+}
+
+static Answer of_QzSeconds(QzSeconds r, const Call *c)
+{
+    bool above = is_above(c->a, "2147483647");
+    bool told = r.capped == above && (above ? r.value == SECONDS_CAP : r.value < SECONDS_CAP);
+    return answer(r.number, r.place, c->a.length, r.number == 0 ? told : r.value == 0 && !r.capped);
+}
+
+static Answer of_QzQvalue(QzQvalue r, const Call *c)
+{
+    return answer(r.number, r.place, c->a.length, r.number == 0 ? r.value <= QVALUE_LIMIT : r.value == 0);
 }
 
 static Answer of_QzLanguage(QzLanguage r, const Call *c)
@@ -290,7 +309,8 @@ static Answer of_QzLibraryVersion(QzLibraryVersion r, const Call *c)
 /* ---- samples: the generator changes, cuts and grows them */
 
 static const char *const versions[] = {"HTTP/1.1", "http/01.0", "HTTP/65535.65535", "HTTP/65536.0", NULL};
-static const char *const deltas[] = {"0", "120", "2147483647", "2147483648", NULL};
+static const char *const deltas[] = {"0",          "120",        "2147483647",           "0002147483647",
+                                     "2147483648", "4294967301", "18446744073709551621", NULL};
 static const char *const qvalues[] = {"0", "0.", "0.25", "0.999", "1.000", NULL};
 static const char *const languages[] = {"en", "en-US", "x-pig-latin", "abcdefgh-i", NULL};
 static const char *const etags[] = {"\"xyzzy\"", "W/\"xyzzy\"", "w/\"\"", "\"a\\\"b\xff\t\"", NULL};
@@ -345,8 +365,8 @@ static uint8_t *lent(Block block, const Call *c)
     ROW(qz_version_read, (A), QzVersion, versions, NO(1) | NO(2) | NO(13))                                           \
     ROW(qz_version_compare, (A, B), QzOrder, versions, NO(1) | NO(2) | NO(13))                                       \
     ROW(qz_version_write, ((uint32_t)c->numbers[0], (uint32_t)c->numbers[1], OUT), QzWritten, texts, NO(8) | NO(9))  \
-    ROW(qz_delta_read, (A), QzNumber, deltas, NO(1) | NO(2) | NO(13))                                                \
-    ROW(qz_qvalue_read, (A), QzNumber, qvalues, NO(1) | NO(13))                                                      \
+    ROW(qz_delta_read, (A), QzSeconds, deltas, NO(1) | NO(13))                                                       \
+    ROW(qz_qvalue_read, (A), QzQvalue, qvalues, NO(1) | NO(13))                                                      \
     ROW(qz_qvalue_write, ((uint16_t)c->numbers[0], OUT), QzWritten, texts, NO(8) | NO(9))                            \
     ROW(qz_language_read, (A), QzLanguage, languages, NO(1) | NO(13))                                                \
     ROW(qz_language_equal, (A, B), QzSame, languages, NO(1) | NO(13))                                                \
@@ -447,10 +467,9 @@ static size_t draw_length(void)
 static uint64_t draw_number(void)
 {
     static const uint64_t edges[] = {1,
-                                     1000,
+                                     QVALUE_LIMIT,
                                      VERSION_LIMIT,
                                      WRITER_LIMIT,
-                                     SECONDS_LIMIT,
                                      UINT32_MAX,
                                      FRAMED_LIMIT,
                                      (uint64_t)EARLIEST,

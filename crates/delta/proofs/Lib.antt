@@ -1,2 +1,4 @@
 pub mod Scan
+pub mod Zeros
 pub mod Demands
+pub mod Examples

@@ -1,7 +1,7 @@
--- Decimal numbers: what digits mean, and when a number is above its limit.
+-- Decimal numbers: what digits mean, when a number is above its limit, and what stands for it where it is capped.
 use Prim.Native.Nat.{ℕ, _+_, _-_, _*_}
 use Prim.Native.Char.{code}
-use mathlib.Core.Bool.{Bool, false, cond, _&&_, _||_}
+use mathlib.Core.Bool.{Bool, true, false, cond, _&&_, _||_}
 use mathlib.Core.List.{List, [], _∷_}
 use mathlib.Core.Option.{Option, none, some}
 use lib.Dec.{ltb}
@@ -31,3 +31,14 @@ above? number? limit (c ∷ ps) = (number? (c .label) && ltb limit (number (c .t
 -- the limit is passed where a number is above it, and so broken by the digit with which the first one is: "the digit that passes it"
 abbrev pub number-limit : {L : Type 0} → (L → Bool) → ℕ → ℕ → List (Part L) → Option Limit
 number-limit number? limit k ps = cond (above? number? limit ps) (some above) none
+
+-- ## Caps on numbers
+
+-- a number, or the cap that stands for one above its limit; the mark says which
+pub record Capped : Type 0 where
+  pub value : ℕ
+  pub capped : Bool
+
+-- what the number n is under a limit and a cap
+abbrev pub capped-number : (limit cap n : ℕ) → Capped
+capped-number limit cap n = cond (ltb limit n) (record { value = cap; capped = true }) (record { value = n; capped = false })

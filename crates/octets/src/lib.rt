@@ -125,10 +125,11 @@ pub fn in_class(class: Class, b: u8) -> bool
     (word >> (b % 64)) % 2 == 1
 }
 
+// Compared, not looked up, for speed: every number is read through it.
 pub fn is_digit(b: u8) -> bool
     ensures { λ r. ⌜ r ≡ digit? b ⌝ }
 {
-    in_class(DIGIT, b)
+    b >= b'0' && b <= b'9'
 }
 
 // A byte of a token.

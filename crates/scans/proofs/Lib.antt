@@ -7,3 +7,5 @@ pub mod Scans
 pub mod Quoted
 pub mod Lines
 pub mod Limits
+pub mod Caps
+pub mod Examples

@@ -5,8 +5,9 @@ use native.Mathlib.Numerals.{add-one}
 use mathlib.Core.Path.{_≡_, refl, ap, subst, _∙_}
 use mathlib.Core.Bool.{Bool, true, false, cond}
 use mathlib.Core.List.{List, [], _∷_}
-use lib.ListN.{length, drop, getD, length-drop, drop-of-length-le}
-use lib.Seq.{drop-cons, getD-drop}
+use lib.ListN.{length, drop, take, getD, length-drop, drop-of-length-le}
+use lib.Seq.{drop-cons, getD-drop, take-length}
+use Rattle.grammar.specs.helpers.Scans.{slice}
 use Rattle.grammar.proofs.Scans.{Run}
 use Rattle.scans.specs.helpers.Runs.{run, run-end}
 
@@ -58,3 +59,31 @@ run-is p s i h = record {
       subst (λ (n : ℕ). p (getD s n 0) ≡ true) e (subst (λ (x : ℕ). p x ≡ true) (getD-drop i s (k - i) 0) (run-inside p (drop i s) (k - i) (omega arith)));
   stops = λ a. subst (λ (x : ℕ). p x ≡ false) (getD-drop i s (length (run p (drop i s))) 0) (run-stops p (drop i s) (omega (arith, length-drop i s)));
 }
+
+-- a run that does not end where it stands has a byte
+pub run-some : (p : ℕ → Bool) (s : List ℕ) (i : ℕ) → (run-end p s i ≡ i → ⊥) → i < run-end p s i
+run-some p s i h = go (length (run p (drop i s))) h
+  where
+    go : (m : ℕ) → (i + m ≡ i → ⊥) → i < i + m
+    go zero f = absurd (f (omega arith))
+    go (suc m) f = omega arith
+
+-- ## A run as a piece of the text
+
+pub run-front : (p : ℕ → Bool) (t : List ℕ) (m : ℕ) → m ≤ length (run p t) → take m t ≡ take m (run p t)
+run-front p [] m h = refl
+run-front p (b ∷ t) m h = go (p b) m h (run-front p t)
+  where
+    go : (x : Bool) (n : ℕ) → n ≤ length (cond x (b ∷ run p t) []) → ((j : ℕ) → j ≤ length (run p t) → take j t ≡ take j (run p t))
+        → take n (b ∷ t) ≡ take n (cond x (b ∷ run p t) [])
+    go true zero k f = refl
+    go true (suc n) k f = ap (λ (l : List ℕ). b ∷ l) (f n (omega arith))
+    go false zero k f = refl
+    go false (suc n) k f = absurd (omega arith)
+
+pub run-slice : (p : ℕ → Bool) (s : List ℕ) (i : ℕ) → slice s i (run-end p s i) ≡ run p (drop i s)
+run-slice p s i =
+    let e : (i + length (run p (drop i s))) - i ≡ length (run p (drop i s)) = omega arith in
+    ap (λ (m : ℕ). take m (drop i s)) e
+    ∙ run-front p (drop i s) (length (run p (drop i s))) (omega arith)
+    ∙ take-length (run p (drop i s))

@@ -8,7 +8,7 @@ use mathlib.Core.List.{List, [], _∷_, _++_, append-nil}
 use mathlib.Core.Option.{Option, none, some}
 use lib.Dec.{T, ltb, eqb}
 use lib.ListN.{length, getD, drop, take, drop-of-length-le}
-use lib.Seq.{drop-cons, take-length}
+use lib.Seq.{drop-cons}
 use denote.Enum.Declared.{tagOf}
 use types.Run.{OneOf, miss}
 use Rattle.scans.proofs.Decimal.{the-type}
@@ -28,7 +28,7 @@ use Rattle.scans.specs.declared.Decimal.the-variants.{Number, Above, Mis
 use Rattle.scans.specs.helpers.Runs.{run, run-end}
 use Rattle.scans.specs.helpers.Decimals.{later, passing, decimal-of, decimal-at}
 use Rattle.scans.specs.helpers.Words.{agreeing}
-use Rattle.scans.proofs.Runs.{run-is}
+use Rattle.scans.proofs.Runs.{run-front, run-some, run-slice, run-is}
 
 or-false : (x : Bool) → (x || false) ≡ x
 or-false true = refl
@@ -37,19 +37,6 @@ or-false false = refl
 either-false : (x y : Bool) → (x || y) ≡ false → (x ≡ false) × (y ≡ false)
 either-false true y e = absurd (true≢false e)
 either-false false y e = (refl, e)
-
--- ## Runs
-
-run-front : (p : ℕ → Bool) (t : List ℕ) (m : ℕ) → m ≤ length (run p t) → take m t ≡ take m (run p t)
-run-front p [] m h = refl
-run-front p (b ∷ t) m h = go (p b) m h (run-front p t)
-  where
-    go : (x : Bool) (n : ℕ) → n ≤ length (cond x (b ∷ run p t) []) → ((j : ℕ) → j ≤ length (run p t) → take j t ≡ take j (run p t))
-        → take n (b ∷ t) ≡ take n (cond x (b ∷ run p t) [])
-    go true zero k f = refl
-    go true (suc n) k f = ap (λ (l : List ℕ). b ∷ l) (f n (omega arith))
-    go false zero k f = refl
-    go false (suc n) k f = absurd (omega arith)
 
 -- ## Decimal numbers
 
@@ -109,11 +96,6 @@ module _ (limit : ℕ) (s : List ℕ) (i : ℕ) where
       let e : (n + 1) - i ≡ suc (n - i) = omega arith in
       ap (λ (m : ℕ). take m (drop i s)) e ∙ run-front digit? (drop i s) (suc (n - i)) (omega arith)
 
-  whole-piece : slice s i (run-end digit? s i) ≡ here
-  whole-piece =
-      let e : (i + length here) - i ≡ length here = omega arith in
-      ap (λ (m : ℕ). take m (drop i s)) e ∙ run-front digit? (drop i s) (length here) (omega arith) ∙ take-length here
-
   -- what the answer says of the digits
   pub record IsNumber (v e : ℕ) : Type 0 where
     pub some : i < e
@@ -136,15 +118,11 @@ module _ (limit : ℕ) (s : List ℕ) (i : ℕ) where
       let w : number here ≡ v = cc in
       let d = eqb-false (i + length here) i q in
       record {
-        some = positive (length here) refl a d;
+        some = omega (arith, run-some digit? s i d);
         end = sym a;
-        is = ap (λ (m : ℕ). number (slice s i m)) (sym a) ∙ ap number whole-piece ∙ w;
+        is = ap (λ (m : ℕ). number (slice s i m)) (sym a) ∙ ap number (run-slice digit? s i) ∙ w;
         small = λ n x y. ap (λ (t : List ℕ). ltb limit (number t)) (piece n x (omega arith)) ∙ passing-none limit 0 here p (n - i) (omega arith);
       }
-    where
-      positive : (m : ℕ) → m ≡ length here → i + length here ≡ e → (i + length here ≡ i → ⊥) → i < e
-      positive zero f g h = absurd (h (omega arith))
-      positive (suc m) f g h = omega arith
 
   missed : (x : Bool) → eqb (i + length here) i ≡ x → cond x Missing (Number (number here) (i + length here)) ≡ Missing
       → run-end digit? s i ≡ i
@@ -195,37 +173,44 @@ module _ (limit : ℕ) (s : List ℕ) (i : ℕ) where
                 λ n x y. ap (λ (t : List ℕ). ltb limit (number t)) (piece n x (omega (arith, w .within))) ∙ w .before (n - i) (omega arith);
           }
 
--- The decimal fact, over the limit: a number that stands in its grammar as a part, the byte being refused with which it passes the limit.
+-- The decimal fact, over the limit: a number that stands in its grammar as a part.
 module _ {L A : Type 0} (r : Rules L A) (s : List ℕ) (cs : List (Part L)) (k : L) (g : Grammar L) (l : live g ≡ true) (h : held g ≡ [])
-    (apart : (j b : ℕ) → digit? b ≡ true → deriv g j b ≡ void) (i : ℕ) (inside : i ≤ length s) (limit : ℕ)
-    (limits : (n : ℕ) (t : List ℕ) → r .limit n (cs ++ record { label = k; start = i; text = t } ∷ []) ≡ cond (ltb limit (number t)) (some above) none) where
-  numeral : Grammar L
-  numeral = ahead cs (then (part k (plus (byte DIGIT))) g)
-
-  quiet : (n : ℕ) (t : List ℕ) → ltb limit (number t) ≡ false → r .limit n (cs ++ record { label = k; start = i; text = t } ∷ []) ≡ none
-  quiet n t e = limits n t ∙ rw e
-
-  -- a number within the limit
-  pub number-reads : (v e : ℕ) → decimal-at limit s i ≡ Number v e
-      → from r s (ahead cs (then (part k (plus (byte DIGIT))) g)) i
-      ≡ from r s (ahead (cs ++ record { label = k; start = i; text = slice s i e } ∷ []) g) e
-  number-reads v e d =
-      let w = number-of limit s i v e d in
-      let x = subst (λ (n : ℕ). Run digit? s i n) (sym (w .end)) (run-is digit? s i inside) in
-      part-plus r s cs k DIGIT g l h apart i e x (w .some) (λ n y z. quiet n (slice s i (n + 1)) (w .small n y z))
-
+    (apart : (j b : ℕ) → digit? b ≡ true → deriv g j b ≡ void) (i : ℕ) (inside : i ≤ length s) where
   -- no digit
-  pub number-missing : decimal-at limit s i ≡ Missing → from r s (ahead cs (then (part k (plus (byte DIGIT))) g)) i ≡ refused 1 i
-  number-missing d =
+  pub number-missing : (limit : ℕ) → decimal-at limit s i ≡ Missing
+      → from r s (ahead cs (then (part k (plus (byte DIGIT))) g)) i ≡ refused 1 i
+  number-missing limit d =
       part-plus-none r s cs k DIGIT g l h apart i (run-end digit? s i) (run-is digit? s i inside) (omega (arith, missing-of limit s i d))
 
-  -- a number above it
-  pub number-passes : (p e : ℕ) → decimal-at limit s i ≡ Above p e
-      → from r s (ahead cs (then (part k (plus (byte DIGIT))) g)) i ≡ refused 2 p
-  number-passes p e d =
-      let w = above-of limit s i p e d in
-      part-plus-breaks r s cs k DIGIT g l h apart i (run-end digit? s i) (run-is digit? s i inside) {z = above} p (w .first) (w .within)
-      (λ n y z. quiet n (slice s i (n + 1)) (w .before n y z)) (limits p (slice s i (p + 1)) ∙ rw (w .passes))
+  -- digits with which no limit is passed, as where a number is capped
+  pub digits-read : (e : ℕ) → i < e → e ≡ run-end digit? s i
+      → ((n : ℕ) → i ≤ n → n < e → r .limit n (cs ++ record { label = k; start = i; text = slice s i (n + 1) } ∷ []) ≡ none)
+      → from r s (ahead cs (then (part k (plus (byte DIGIT))) g)) i
+      ≡ from r s (ahead (cs ++ record { label = k; start = i; text = slice s i e } ∷ []) g) e
+  digits-read e a b quiet =
+      part-plus r s cs k DIGIT g l h apart i e (subst (λ (n : ℕ). Run digit? s i n) (sym b) (run-is digit? s i inside)) a quiet
+
+  -- the byte is refused with which the number passes the limit
+  module _ (limit : ℕ)
+      (limits : (n : ℕ) (t : List ℕ) → r .limit n (cs ++ record { label = k; start = i; text = t } ∷ []) ≡ cond (ltb limit (number t)) (some above) none) where
+    quiet : (n : ℕ) (t : List ℕ) → ltb limit (number t) ≡ false → r .limit n (cs ++ record { label = k; start = i; text = t } ∷ []) ≡ none
+    quiet n t e = limits n t ∙ rw e
+
+    -- a number within the limit
+    pub number-reads : (v e : ℕ) → decimal-at limit s i ≡ Number v e
+        → from r s (ahead cs (then (part k (plus (byte DIGIT))) g)) i
+        ≡ from r s (ahead (cs ++ record { label = k; start = i; text = slice s i e } ∷ []) g) e
+    number-reads v e d =
+        let w = number-of limit s i v e d in
+        digits-read e (w .some) (w .end) (λ n y z. quiet n (slice s i (n + 1)) (w .small n y z))
+
+    -- a number above it
+    pub number-passes : (p e : ℕ) → decimal-at limit s i ≡ Above p e
+        → from r s (ahead cs (then (part k (plus (byte DIGIT))) g)) i ≡ refused 2 p
+    number-passes p e d =
+        let w = above-of limit s i p e d in
+        part-plus-breaks r s cs k DIGIT g l h apart i (run-end digit? s i) (run-is digit? s i inside) {z = above} p (w .first) (w .within)
+        (λ n y z. quiet n (slice s i (n + 1)) (w .before n y z)) (limits p (slice s i (p + 1)) ∙ rw (w .passes))
 
 -- a number behind parts that are not above the limit
 pub above-last : {L : Type 0} (number? : L → Bool) (limit : ℕ) (cs : List (Part L)) (c : Part L) → above? number? limit cs ≡ false

@@ -11,7 +11,8 @@ ghost use Rattle.scans.specs.helpers.Decimals.{number-from, decimal-at};
 ghost use Rattle.scans.specs.helpers.Words.{agreeing};
 ghost use Rattle.scans.specs.helpers.Quoted.{quoted-end};
 
-// A run of decimal digits under a limit: the number and the place behind the run; the digit that passes the limit; no digit.
+// A run of decimal digits under a limit: the number and the place behind the run; or the digit that passes the limit, for callers that
+// refuse the number there, and the place behind the run, for those that cap it and read on; or no digit.
 pub enum Decimal {
     Number { value: u64, end: usize },
     Above { place: usize, end: usize },

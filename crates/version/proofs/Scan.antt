@@ -59,7 +59,7 @@ module _ (s : List ℕ) (short : length s ≤ 8192) where
     limits = number-limits (λ l. true) largest [] refl major 5 refl
 
     pub major-missing : decimal-at largest s 5 ≡ Missing → header rules s ≡ refused 1 5
-    major-missing d = named ∙ number-missing rules s [] major point-and-minor refl refl point-apart 5 long largest limits d
+    major-missing d = named ∙ number-missing rules s [] major point-and-minor refl refl point-apart 5 long largest d
 
     pub major-passes : (p e : ℕ) → decimal-at largest s 5 ≡ Above p e → header rules s ≡ refused 2 p
     major-passes p e d = named ∙ number-passes rules s [] major point-and-minor refl refl point-apart 5 long largest limits p e d
@@ -110,7 +110,7 @@ module _ (s : List ℕ) (n e : ℕ) (a : AfterMajor s n e) where
           or-one f = rw f
 
       pub minor-missing : decimal-at largest s (e + 1) ≡ Missing → header rules s ≡ refused 1 (e + 1)
-      minor-missing d = pointed ∙ number-missing rules s cs minor empty refl refl apart (e + 1) inside largest minor-limits d
+      minor-missing d = pointed ∙ number-missing rules s cs minor empty refl refl apart (e + 1) inside largest d
 
       pub minor-passes : (p f : ℕ) → decimal-at largest s (e + 1) ≡ Above p f → header rules s ≡ refused 2 p
       minor-passes p f d = pointed ∙ number-passes rules s cs minor empty refl refl apart (e + 1) inside largest minor-limits p f d

@@ -3,6 +3,7 @@
 mod bodies;
 mod measure;
 mod pieces;
+mod seconds;
 mod trailers;
 mod values;
 
@@ -14,4 +15,6 @@ fn main() {
     trailers::print();
     println!();
     values::print();
+    println!();
+    seconds::print();
 }

@@ -201,7 +201,7 @@ pub fn short(kind: Kind) -> &'static [Short] {
             (b"Sun, 06 Nov 1994 ", b"0126:", 6),
             (b"Sunday, 06-Nov-94 08:49:37 ", b"GMTm ", 5),
         ],
-        Kind::Delta => &[(b"", b"0129 -", 5), (b"21474836", b"4789", 4)],
+        Kind::Delta => &[(b"", b"0129 -", 5), (b"21474836", b"4789", 4), (b"000214748364", b"0789 +", 4)],
         Kind::Qvalue => &[(b"", b"01.592", 6)],
         Kind::Language => &[(b"", b"aZ-1", 7), (b"abcdef", b"gh-", 6)],
         Kind::EntityTag => &[(b"", b"Ww/\"\\a\x80", 6), (b"W/\"", b"\"\\a\x7f\t\xff", 5)],

@@ -1,8 +1,10 @@
-//! HTTP/1.1 protocol parameters and chunked bodies, written from documents 01 and 02 (requests (i) and (xii)) alone.
+//! HTTP/1.1 protocol parameters and chunked bodies, written from documents 01 and 02 alone; of the latter
+//! requests (i), (iii) and (xii).
 //!
 //! Each rule of the document is a grammar value. A matcher follows every alternative of it, which gives the
 //! longest beginning that can still be completed; limits are checked afterwards, over the parts of that beginning.
-//! The chunked readers `plain`, `pieces` and `plain_pieces` judge byte by byte instead.
+//! The chunked readers `plain`, `pieces` and `plain_pieces`, and those of `plain_values`, judge byte by byte
+//! instead.
 
 pub mod bench;
 pub mod chunked;
@@ -16,6 +18,7 @@ pub mod media;
 pub mod pieces;
 pub mod plain;
 pub mod plain_pieces;
+pub mod plain_values;
 pub mod products;
 pub mod qvalue;
 pub mod rules;
@@ -106,7 +109,7 @@ fn read_header(
     }
 }
 
-/// Kinds of header values without a limit of their own.
+/// Kinds of header values that no limit of their own refuses.
 fn no_limits(_: &Parsed) -> Vec<Refusal> {
     Vec::new()
 }

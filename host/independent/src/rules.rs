@@ -101,3 +101,26 @@ pub fn number_limit(parsed: &Parsed, input: &[u8], name: Name, limit: u64) -> Ve
 pub fn number_of(input: &[u8], span: Span) -> u64 {
     span.of(input).iter().fold(0, |value, digit| value * 10 + u64::from(digit - b'0'))
 }
+
+/// A number, or the cap that stands for one above its limit.
+#[derive(Clone, Copy, Debug, PartialEq, Eq)]
+pub struct Capped {
+    pub value: u64,
+    pub capped: bool,
+}
+
+/// Leading zeros aside, the longer number is the larger, and of two as long the one whose text comes later.
+/// So any count of digits can be compared, and none is summed.
+fn is_above(digits: &[u8], limit: u64) -> bool {
+    let zeros = digits.iter().take_while(|digit| **digit == b'0').count();
+    let (number, limit) = (&digits[zeros..], limit.to_string());
+    (number.len(), number) > (limit.len(), limit.as_bytes())
+}
+
+/// The value of a part of digits; above the limit, the cap.
+pub fn number_capped(input: &[u8], span: Span, limit: u64, cap: u64) -> Capped {
+    if is_above(span.of(input), limit) {
+        return Capped { value: cap, capped: true };
+    }
+    Capped { value: number_of(input, span), capped: false }
+}

@@ -1,7 +1,7 @@
 //! Each byte class of document 01, for all 256 bytes, through a reader that uses it.
 
 use independent::chunked::{decode, Decoded};
-use independent::{etag, language, media, products, url};
+use independent::{delta, etag, language, media, products, url};
 
 const LETTERS_AND_DIGITS: &str = "abcdefghijklmnopqrstuvwxyzABCDEFGHIJKLMNOPQRSTUVWXYZ0123456789";
 const TOKEN_MARKS: &str = "!#$%&'*+-.^_`|~";
@@ -111,6 +111,13 @@ fn escapes() {
         let escaped = format!("http://a/%{byte:02x}").into_bytes();
         url::equal(&escaped, &[b"http://a/", &[byte][..]].concat()) == Ok(true)
     });
+}
+
+#[test]
+fn digits() {
+    let digit = |byte: u8| byte.is_ascii_digit();
+    check("first digit of seconds", digit, |byte| delta::read(&[byte]).is_ok());
+    check("digit after the cap", digit, |byte| delta::read(&[b"2147483648", &[byte][..]].concat()).is_ok());
 }
 
 #[test]

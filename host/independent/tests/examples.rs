@@ -2,6 +2,7 @@
 
 use independent::chunked::{decode, encode, Decoded, BODY_LIMIT, LINE_LIMIT, TRAILER_LIMIT};
 use independent::date::{EARLIEST, LATEST, LENGTH};
+use independent::delta::Seconds;
 use independent::media::{Charset, PARAMETER_LIMIT};
 use independent::version::Version;
 use independent::{
@@ -12,6 +13,8 @@ use std::cmp::Ordering;
 
 const EMPTY_OUTPUT: usize = 0;
 const AMPLE: usize = 64;
+/// More digits than any machine number has.
+const MANY: usize = 3_000;
 
 fn refused<T: std::fmt::Debug>(answer: Result<T, Refusal>, number: u8, place: usize) {
     assert_eq!(answer.expect_err("a refusal"), Refusal { number, place });
@@ -38,8 +41,8 @@ fn empty_header_values_are_malformed_at_zero() {
 fn header_values_above_the_limit() {
     let long = |count| vec![b'1'; count];
     refused(delta::read(&long(HEADER_LIMIT + 1)), 13, HEADER_LIMIT);
-    refused(delta::read(&long(HEADER_LIMIT)), 2, 10);
-    assert_eq!(delta::read(&vec![b'0'; HEADER_LIMIT]), Ok(0));
+    assert_eq!(delta::read(&long(HEADER_LIMIT)), CAPPED);
+    assert_eq!(delta::read(&vec![b'0'; HEADER_LIMIT]), seconds(0));
     refused(language::read(&long(HEADER_LIMIT + 1)), 13, HEADER_LIMIT);
     refused(language::read(&long(HEADER_LIMIT)), 1, 0);
     assert_eq!(products::read(&long(HEADER_LIMIT)).map(|answer| answer.products), Ok(1));
@@ -63,6 +66,20 @@ fn versions() {
     refused(read("http/1.1 "), 1, 8);
     refused(read(" HTTP/1.1"), 1, 0);
     refused(read("HTTP/1.1\r\n"), 1, 8);
+}
+
+/// No count of digits caps a version: it is 2 at the digit that passes the limit.
+#[test]
+fn versions_of_many_digits() {
+    let read = |text: String| version::read(text.as_bytes());
+    let (zeros, nines) = ("0".repeat(MANY), "9".repeat(MANY));
+    assert_eq!(read(format!("HTTP/{zeros}1.{zeros}1")), Ok(Version::HTTP_1_1));
+    refused(read(format!("HTTP/{zeros}65536.0")), 2, 9 + MANY);
+    refused(read(format!("HTTP/1.{zeros}65536")), 2, 11 + MANY);
+    refused(read(format!("HTTP/{nines}.0")), 2, 9);
+    refused(read(format!("HTTP/1.{nines}x")), 2, 11);
+    refused(read(format!("HTTP/65535{zeros}.0")), 2, 10);
+    refused(read(format!("HTTP/{zeros}65535x")), 1, 10 + MANY);
 }
 
 #[test]
@@ -163,16 +180,76 @@ fn date_writer() {
     refused(date::write(0, LENGTH - 1), 8, 0);
 }
 
+/// As many seconds as were sent.
+fn seconds(value: u32) -> Result<Seconds, Refusal> {
+    Ok(Seconds { value, capped: false })
+}
+
+/// More seconds than the limit.
+const CAPPED: Result<Seconds, Refusal> = Ok(Seconds { value: 2_147_483_648, capped: true });
+
 #[test]
 fn delta_seconds() {
-    assert_eq!(delta::read(b"0"), Ok(0));
-    assert_eq!(delta::read(b"00003600"), Ok(3600));
-    assert_eq!(delta::read(b"2147483647"), Ok(2_147_483_647));
-    refused(delta::read(b"2147483648"), 2, 9);
-    refused(delta::read(b"21474836470"), 2, 10);
-    refused(delta::read(b"2147483648x"), 2, 9);
-    refused(delta::read(b"12x"), 1, 2);
-    refused(delta::read(b"-1"), 1, 0);
+    assert_eq!(delta::read(b"0"), seconds(0));
+    assert_eq!(delta::read(b"00003600"), seconds(3600));
+    assert_eq!(delta::read(b"999999999"), seconds(999_999_999));
+    assert_eq!(delta::read(b"2147483646"), seconds(2_147_483_646));
+    assert_eq!(delta::read(b"2147483647"), seconds(2_147_483_647));
+    assert_eq!(delta::read(b"0002147483647"), seconds(2_147_483_647));
+    for (text, place) in
+        [("", 0), ("x", 0), ("-1", 0), ("+1", 0), (" 1", 0), ("1 ", 1), ("12x", 2), ("1,2", 1)]
+    {
+        refused(delta::read(text.as_bytes()), 1, place);
+    }
+}
+
+#[test]
+fn capped_delta_seconds() {
+    for text in [
+        "2147483648",
+        "2147483649",
+        "2147483650",
+        "0002147483648",
+        "3000000000",
+        "9999999999",
+        "10000000000",
+        "21474836470",
+        // 2^n - 1, 2^n and 2^n + 5 for n of 32, 64 and 128.
+        "4294967295",
+        "4294967296",
+        "4294967301",
+        "18446744073709551615",
+        "18446744073709551616",
+        "18446744073709551621",
+        "340282366920938463463374607431768211455",
+        "340282366920938463463374607431768211456",
+        "340282366920938463463374607431768211461",
+    ] {
+        assert_eq!(delta::read(text.as_bytes()), CAPPED, "{text}");
+        refused(delta::read(format!("{text}x").as_bytes()), 1, text.len());
+    }
+    refused(delta::read(b"2147483648x"), 1, 10);
+    refused(delta::read(b"99999999999x"), 1, 11);
+    refused(delta::read(b"99999999999x9"), 1, 11);
+}
+
+#[test]
+fn delta_seconds_of_many_digits() {
+    let digits = |filler: u8, count: usize, tail: &str| [vec![filler; count], tail.into()].concat();
+    let read = |filler, count, tail| delta::read(&digits(filler, count, tail));
+    let before = HEADER_LIMIT - "2147483647".len();
+    assert_eq!(read(b'9', 1_000, ""), CAPPED);
+    assert_eq!(read(b'9', HEADER_LIMIT, ""), CAPPED);
+    assert_eq!(read(b'0', HEADER_LIMIT, ""), seconds(0));
+    assert_eq!(read(b'0', HEADER_LIMIT - 1, "7"), seconds(7));
+    assert_eq!(read(b'0', before, "2147483647"), seconds(2_147_483_647));
+    assert_eq!(read(b'0', before, "2147483648"), CAPPED);
+    assert_eq!(read(b'0', before - 1, "10000000000"), CAPPED);
+    refused(read(b'9', HEADER_LIMIT - 1, "x"), 1, HEADER_LIMIT - 1);
+    for filler in [b'0', b'9', b'x'] {
+        refused(read(filler, HEADER_LIMIT + 1, ""), 13, HEADER_LIMIT);
+        refused(read(filler, HEADER_LIMIT, "x"), 13, HEADER_LIMIT);
+    }
 }
 
 #[test]
@@ -430,6 +507,19 @@ fn urls() {
     }
     refused(url::read(b"http://a:65536/"), 2, 13);
     refused(url::read(b"http://a:99999#"), 2, 13);
+}
+
+/// No count of digits caps a port: it is 2 at the digit that passes the limit.
+#[test]
+fn ports_of_many_digits() {
+    let read = |text: String| url::read(text.as_bytes()).map(|read| read.port);
+    let (zeros, nines) = ("0".repeat(MANY), "9".repeat(MANY));
+    assert_eq!(read(format!("http://a:{zeros}65535/")), Ok(65_535));
+    refused(read(format!("http://a:{zeros}65536/")), 2, 13 + MANY);
+    refused(read(format!("http://a:{nines}")), 2, 13);
+    refused(read(format!("http://a:{nines}#")), 2, 13);
+    refused(read(format!("http://a:65535{zeros}/")), 2, 14);
+    refused(read(format!("http://a:{zeros}65535#")), 1, 14 + MANY);
 }
 
 #[test]

@@ -5,7 +5,7 @@ use independent::chunked::{decode, Decoded};
 use independent::generate::{allowed_name, allowed_names, forbidden_name, forbidden_names};
 use independent::generate::{any, at_limits, cuttings, every_cutting, pair, pieces_of, quotas, Kind, Rng};
 use independent::generate::{any_body, body, body_with_names};
-use independent::{etag, language, media, url, version, Refused, Which};
+use independent::{delta, etag, language, media, url, version, Refused, Which};
 use std::cmp::Ordering;
 use std::collections::{BTreeSet, HashSet};
 
@@ -36,13 +36,45 @@ fn reaches(kind: Kind, expected: &[u8]) {
 fn header_values() {
     reaches(Kind::Version, &[0, 1, 2, 13]);
     reaches(Kind::Date, &[0, 1, 3, 4, 13]);
-    reaches(Kind::Delta, &[0, 1, 2, 13]);
+    reaches(Kind::Delta, &[0, 1, 13]);
     reaches(Kind::Qvalue, &[0, 1, 13]);
     reaches(Kind::Language, &[0, 1, 13]);
     reaches(Kind::EntityTag, &[0, 1, 13]);
     reaches(Kind::MediaType, &[0, 1, 10, 11, 13]);
     reaches(Kind::Products, &[0, 1, 12, 13]);
     reaches(Kind::Url, &[0, 1, 2, 13]);
+}
+
+/// Whether the digits in front are capped, have leading zeros, are a thousand or more, and end the input.
+fn shape(input: &[u8]) -> Option<(bool, bool, bool, bool)> {
+    let count = input.iter().take_while(|byte| byte.is_ascii_digit()).count();
+    let capped = delta::read(&input[..count]).ok()?.capped;
+    Some((capped, count > 1 && input[0] == b'0', count >= 1_000, count == input.len()))
+}
+
+/// Random seconds and those at the limits both have every shape but one that there is not: a thousand digits
+/// without a leading zero, and not capped.
+#[test]
+fn seconds_on_both_sides_of_their_limit() {
+    let mut rng = Rng::new(12);
+    let random: Vec<_> = (0..ROUNDS).map(|_| any(Kind::Delta, &mut rng)).collect();
+    for inputs in [random, at_limits(Kind::Delta)] {
+        let shapes: BTreeSet<_> = inputs.iter().filter_map(|input| shape(input)).collect();
+        assert!(!shapes.iter().any(|shape| matches!(shape, (false, false, true, _))));
+        assert_eq!(shapes.len(), (1 << 4) - 2, "{shapes:?}");
+    }
+}
+
+#[test]
+fn seconds_of_about_8192_digits() {
+    let inputs: HashSet<_> = at_limits(Kind::Delta).into_iter().collect();
+    for length in 8_190..=8_194 {
+        assert!(inputs.contains(&vec![b'9'; length]));
+        for tail in ["", "2147483647", "2147483648", "2147483649"] {
+            let zeros = "0".repeat(length - tail.len());
+            assert!(inputs.contains(format!("{zeros}{tail}").as_bytes()), "{length}, {tail}");
+        }
+    }
 }
 
 #[test]

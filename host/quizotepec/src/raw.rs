@@ -121,10 +121,22 @@ pub struct QzOrder {
     pub order: u8,
 }
 
-/// A number that was read: seconds, or thousandths.
+/// Delta-seconds that were read.
 #[repr(C)]
 #[derive(Clone, Copy)]
-pub struct QzNumber {
+pub struct QzSeconds {
+    pub number: u8,
+    pub place: usize,
+    /// 2,147,483,648 where they were capped
+    pub value: u32,
+    /// the number is above 2,147,483,647, and `value` stands for it
+    pub capped: bool,
+}
+
+/// A qvalue that was read, in thousandths.
+#[repr(C)]
+#[derive(Clone, Copy)]
+pub struct QzQvalue {
     pub number: u8,
     pub place: usize,
     pub value: u32,
@@ -302,7 +314,7 @@ pub struct QzFed {
 /// The version of this header; qz_library_version gives that of the library which is linked.
 pub const VERSION_MAJOR: u32 = 0;
 
-pub const VERSION_MINOR: u32 = 4;
+pub const VERSION_MINOR: u32 = 5;
 
 pub const VERSION_PATCH: u32 = 0;
 
@@ -319,8 +331,8 @@ extern "C" {
     pub fn qz_version_read(s: *const u8, s_len: usize) -> QzVersion;
     pub fn qz_version_compare(a: *const u8, a_len: usize, b: *const u8, b_len: usize) -> QzOrder;
     pub fn qz_version_write(major: u32, minor: u32, out: *mut u8, out_len: usize) -> QzWritten;
-    pub fn qz_delta_read(s: *const u8, s_len: usize) -> QzNumber;
-    pub fn qz_qvalue_read(s: *const u8, s_len: usize) -> QzNumber;
+    pub fn qz_delta_read(s: *const u8, s_len: usize) -> QzSeconds;
+    pub fn qz_qvalue_read(s: *const u8, s_len: usize) -> QzQvalue;
     pub fn qz_qvalue_write(thousandths: u16, out: *mut u8, out_len: usize) -> QzWritten;
     pub fn qz_language_read(s: *const u8, s_len: usize) -> QzLanguage;
     pub fn qz_language_equal(a: *const u8, a_len: usize, b: *const u8, b_len: usize) -> QzSame;

@@ -126,7 +126,7 @@ impl Refusal {
     /// The number in the table of refusals.
     ///
     /// ```
-    /// assert_eq!(quizotepec::delta_read(b"2147483648").unwrap_err().number(), 2);
+    /// assert_eq!(quizotepec::version_read(b"HTTP/65536.0").unwrap_err().number(), 2);
     /// ```
     pub fn number(self) -> u8 {
         match self {
@@ -152,7 +152,7 @@ impl Refusal {
     /// The place, counted from 0.
     ///
     /// ```
-    /// assert_eq!(quizotepec::delta_read(b"2147483648").unwrap_err().place(), 9);
+    /// assert_eq!(quizotepec::version_read(b"HTTP/65536.0").unwrap_err().place(), 9);
     /// ```
     pub fn place(self) -> usize {
         match self {
@@ -178,7 +178,7 @@ impl Refusal {
     /// What the refusal says, in words.
     ///
     /// ```
-    /// assert_eq!(quizotepec::delta_read(b"2147483648").unwrap_err().meaning(), "number above its limit");
+    /// assert_eq!(quizotepec::version_read(b"HTTP/65536.0").unwrap_err().meaning(), "number above its limit");
     /// ```
     pub fn meaning(self) -> &'static str {
         match self {

@@ -1,5 +1,5 @@
-//! The examples of document 01 and of RFC 2616 section 3, as written there, and cases beside them; trailers by request
-//! (xii) of document 02.
+//! The examples of document 01 and of RFC 2616 section 3, as written there, and cases beside them; seconds by request
+//! (iii) and trailers by request (xii) of document 02.
 
 mod common;
 
@@ -8,8 +8,8 @@ use quizotepec::{
     chunked_decode, chunked_encode, date_read, date_write, delta_read, etag_read, etag_strong_match,
     etag_weak_match, language_equal, language_read, media_charset, media_equal, media_read, products_read,
     qvalue_read, qvalue_write, url_equal, url_read, version_compare, version_read, version_write, Charset,
-    Date, Decoded, EntityTag, LanguageTag, Parameter, Pieces, Products, Refusal, Refused, Span, Url, Version,
-    Which,
+    Date, Decoded, EntityTag, LanguageTag, Parameter, Pieces, Products, Refusal, Refused, Seconds, Span, Url,
+    Version, Which,
 };
 use std::cmp::Ordering;
 
@@ -44,11 +44,27 @@ fn versions() {
 }
 
 #[test]
-fn numbers() {
-    assert_eq!(delta_read(b"2147483647"), Ok(2_147_483_647));
-    assert_eq!(delta_read(b"2147483648"), no(2, 9));
+fn seconds() {
+    let exact = |value| Ok(Seconds { value, capped: false });
+    let capped = Ok(Seconds { value: 2_147_483_648, capped: true });
+    assert_eq!(delta_read(b"2147483647"), exact(2_147_483_647));
+    assert_eq!(delta_read(b"0002147483647"), exact(2_147_483_647));
+    assert_eq!(delta_read(b"2147483648"), capped);
+    assert_eq!(delta_read(b"0002147483648"), capped);
+    assert_eq!(delta_read(b"18446744073709551616"), capped);
+    assert_eq!(delta_read(&[b'9'; 1_000]), capped);
+    assert_eq!(delta_read(&[b'9'; 8_192]), capped);
+    assert_eq!(delta_read(&[b'0'; 8_192]), exact(0));
+    assert_eq!(delta_read(&[&[b'0'; 8_182][..], b"2147483647"].concat()), exact(2_147_483_647));
     assert_eq!(delta_read(b""), no(1, 0));
-    assert_eq!(delta_read(&[b'0'; 8_193]), no(13, 8_192));
+    assert_eq!(delta_read(b"99999999999x"), no(1, 11));
+    for digit in [b'0', b'9'] {
+        assert_eq!(delta_read(&[digit; 8_193]), no(13, 8_192));
+    }
+}
+
+#[test]
+fn qvalues() {
     assert_eq!(qvalue_read(b"0."), Ok(0));
     assert_eq!(qvalue_read(b"1.001"), no(1, 4));
     assert_eq!(qvalue_read(b"0.1234"), no(1, 5));

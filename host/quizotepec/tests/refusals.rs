@@ -62,7 +62,7 @@ fn a_comparison_names_its_source() {
 fn both_pass_through_a_box() {
     fn number(value: &[u8]) -> Result<u32, Box<dyn Error + Send + Sync>> {
         language_equal(b"en", b"en")?;
-        Ok(delta_read(value)?)
+        Ok(delta_read(value)?.value)
     }
     assert_eq!(number(b"1").unwrap(), 1);
     assert_eq!(number(b"1x").unwrap_err().to_string(), "malformed, at 1 (refusal 1)");

@@ -8,7 +8,8 @@ use independent::{date, delta, etag, language, media, products, qvalue, url, ver
 use quizotepec::{
     date_read, delta_read, etag_read, etag_strong_match, etag_weak_match, language_equal, language_read,
     media_charset, media_equal, media_read, products_read, qvalue_read, url_equal, url_read, version_compare,
-    version_read, Charset, Date, EntityTag, LanguageTag, Parameter, Products, Refusal, Refused, Url, Version,
+    version_read, Charset, Date, EntityTag, LanguageTag, Parameter, Products, Refusal, Refused, Seconds, Url,
+    Version,
 };
 use std::fmt::Debug;
 
@@ -67,15 +68,16 @@ fn version_agrees(input: &[u8]) {
 }
 
 fn delta_agrees(input: &[u8]) {
-    alike(input, delta_read(input), delta::read(input));
-    let n = unsafe { raw::qz_delta_read(input.as_ptr(), input.len()) };
-    unused(input, n.number, n.place, &[n.value.into()]);
+    let expected = delta::read(input).map(|s| Seconds { value: s.value, capped: s.capped });
+    alike(input, delta_read(input), expected);
+    let s = unsafe { raw::qz_delta_read(input.as_ptr(), input.len()) };
+    unused(input, s.number, s.place, &[s.value.into(), s.capped.into()]);
 }
 
 fn qvalue_agrees(input: &[u8]) {
     alike(input, qvalue_read(input).map(u32::from), qvalue::read(input));
-    let n = unsafe { raw::qz_qvalue_read(input.as_ptr(), input.len()) };
-    unused(input, n.number, n.place, &[n.value.into()]);
+    let q = unsafe { raw::qz_qvalue_read(input.as_ptr(), input.len()) };
+    unused(input, q.number, q.place, &[q.value.into()]);
 }
 
 fn language_agrees(input: &[u8]) {
@@ -308,6 +310,7 @@ fn every_byte_at_every_place() {
     let texts = [
         (version_agrees as Agree, "HTTP/12.34"),
         (delta_agrees, "120"),
+        (delta_agrees, "2147483647"),
         (qvalue_agrees, "0.25"),
         (language_agrees, "en-cockney"),
         (etag_agrees, "W/\"x\\y\""),

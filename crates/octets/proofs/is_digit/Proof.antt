@@ -1,9 +1,16 @@
--- `octets::is_digit` meets its contract: the bits are those of the class.
-use mathlib.Core.Path.{_∙_}
-use borrow.Author.Needs.{needs}
-use Rattle.octets.proofs.Tables.{digit-bits}
+-- `octets::is_digit` meets its contract.
+use borrow.Author.Tests.{le-leb, lt-leb}
+use Rattle.octets.specs.Bytes.{digit?}
 use Rattle.octets.proofs.is_digit.Statement.{statement}
 use Rattle.octets.proofs.is_digit.Tie as tie
 
+returns : tie.Need-returns
+unfolding digit?
+returns c = rw (le-leb 48 (c .before .args .b) (c .if1 .taken))
+
+returns-2 : tie.Need-returns-2
+unfolding digit?
+returns-2 c = rw (lt-leb 48 (c .before .args .b) (c .if1 .left))
+
 pub is-digit-spec : {M : Type 1} → statement M
-is-digit-spec = tie.close (tie.spec (λ c κs. search needs) (λ c. c .in-class .ensures ∙ digit-bits (c .before .args .b) (search needs)))
+is-digit-spec = tie.close (tie.spec returns returns-2)

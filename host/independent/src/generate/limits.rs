@@ -30,7 +30,7 @@ pub fn at_limits(kind: Kind) -> Vec<Vec<u8>> {
     let mut inputs = long_values(kind);
     match kind {
         Kind::Version => inputs.extend(numbers(b"HTTP/", NUMBER_LIMIT, b".1")),
-        Kind::Delta => inputs.extend(numbers(b"", SECONDS_LIMIT, b"")),
+        Kind::Delta => inputs.extend(seconds()),
         Kind::Date => inputs.extend(dates()),
         Kind::Url => inputs.extend(numbers(b"http://a:", PORT_LIMIT, b"/")),
         Kind::MediaType => inputs.extend(parameters()),
@@ -45,7 +45,15 @@ fn long_values(kind: Kind) -> Vec<Vec<u8>> {
     let shapes: &[(&[u8], u8, &[u8])] = match kind {
         Kind::Version => &[(b"HTTP/", b'0', b"1.1"), (b"HTTP/1.", b'0', b"1"), (b"HTTP/1.", b'9', b"")],
         Kind::Date => &[(b"Sun, 06 Nov 1994 08:49:37 GMT", b' ', b"")],
-        Kind::Delta => &[(b"", b'0', b"7"), (b"", b'0', b"2147483648"), (b"", b'9', b"")],
+        Kind::Delta => &[
+            (b"", b'0', b""),
+            (b"", b'0', b"7"),
+            (b"", b'0', b"2147483647"),
+            (b"", b'0', b"2147483648"),
+            (b"", b'0', b"2147483649"),
+            (b"", b'9', b""),
+            (b"1", b'0', b"5"),
+        ],
         Kind::Qvalue => &[(b"0.", b'0', b"")],
         Kind::Language => &[(b"en-", b'a', b""), (b"en", b'-', b"")],
         Kind::EntityTag => &[(b"W/\"", b'a', b"\""), (b"\"", b'\\', b"\""), (b"\"", b'\xff', b"\"")],
@@ -70,10 +78,34 @@ fn numbers(head: &[u8], limit: u64, tail: &[u8]) -> Vec<Vec<u8>> {
     let near = [limit - 1, limit, limit + 1, limit * 10, limit * 10 + 9, limit * 1_000_000];
     let wrapping =
         ["18446744073709551616", "18446744073709551617", "340282366920938463463374607431768211456"];
-    let plain = near.iter().map(u64::to_string).chain(wrapping.map(String::from));
-    let spelled = plain.flat_map(|digits| [digits.clone(), format!("000{digits}")]);
+    spelled(head, near.iter().map(u64::to_string).chain(wrapping.map(String::from)), tail)
+}
+
+/// Each number without and with leading zeros, followed by the tail, by nothing and by a wrong byte.
+fn spelled(head: &[u8], numbers: impl Iterator<Item = String>, tail: &[u8]) -> Vec<Vec<u8>> {
+    let spelled = numbers.flat_map(|digits| [digits.clone(), format!("000{digits}")]);
     let tails = [tail, b"", b"\0"];
     spelled.flat_map(|digits| tails.map(|tail| [head, digits.as_bytes(), tail].concat())).collect()
+}
+
+/// Seconds near the limit, seconds that wrap to few at 32, 64 or 128 bits, and many digits.
+fn seconds() -> Vec<Vec<u8>> {
+    let wrapping = [
+        "4294967295",
+        "4294967296",
+        "4294967301",
+        "18446744073709551615",
+        "18446744073709551621",
+        "340282366920938463463374607431768211455",
+        "340282366920938463463374607431768211461",
+    ];
+    // As 2^n divides 10^n, a 1, at least n zeros and a 5 wrap to 5 at n bits.
+    let many = [10, 11, 19, 20, 21, 32, 64, 128, 1_000, 4_000]
+        .map(|count| ["9".repeat(count), format!("1{}5", "0".repeat(count))]);
+    let digits = wrapping.map(String::from).into_iter().chain(many.into_iter().flatten());
+    let mut inputs = numbers(b"", SECONDS_LIMIT, b" ");
+    inputs.extend(spelled(b"", digits, b"x"));
+    inputs
 }
 
 /// Each number of a date on both sides of its bounds, in every form and under every name of a day.

@@ -20,7 +20,7 @@ pub(super) fn value(kind: Kind, rng: &mut Rng) -> Vec<u8> {
     match kind {
         Kind::Version => version(numbers(rng), rng),
         Kind::Date => date(rng),
-        Kind::Delta => spell_number(near(SECONDS_LIMIT, rng), rng),
+        Kind::Delta => seconds(rng),
         Kind::Qvalue => qvalue(rng),
         Kind::Language => language(rng),
         Kind::EntityTag => entity_tag(&quoted_content(rng), rng),
@@ -93,9 +93,33 @@ fn near(limit: u64, rng: &mut Rng) -> u64 {
     }
 }
 
-fn spell_number(number: u64, rng: &mut Rng) -> Vec<u8> {
+fn spell_number(number: impl ToString, rng: &mut Rng) -> Vec<u8> {
     let zeros = if rng.once_in(4) { rng.below(6) } else { 0 };
     [vec![b'0'; zeros], number.to_string().into_bytes()].concat()
+}
+
+/// Seconds near their limit; at times those that wrap to few at 32 or 64 bits, or many digits.
+fn seconds(rng: &mut Rng) -> Vec<u8> {
+    match rng.below(12) {
+        0 => {
+            let multiple = (1 + rng.below(1_000) as u128) << rng.pick(&[32, 64]);
+            spell_number(multiple + rng.below(100) as u128, rng)
+        }
+        1 => many_digits(rng),
+        _ => spell_number(near(SECONDS_LIMIT, rng), rng),
+    }
+}
+
+/// Up to some thousand digits: nines, any digits, or leading zeros and few others.
+fn many_digits(rng: &mut Rng) -> Vec<u8> {
+    let most = rng.pick(&[12, 40, 200, 3_000]);
+    let zeros = if rng.once_in(2) { rng.below(most) } else { 0 };
+    let behind = match rng.below(3) {
+        0 => rng.string(b"9", 10, most),
+        1 => rng.string(DIGITS, 10, most),
+        _ => near(SECONDS_LIMIT, rng).to_string().into_bytes(),
+    };
+    [vec![b'0'; zeros], behind].concat()
 }
 
 /// The numbers of a version; one may be above its limit.
