@@ -31,8 +31,10 @@ module _ (limit cap n : ℕ) where
   pub capped-exactly : (capped-number limit cap n .capped ≡ true) ↔ (limit < n)
   capped-exactly = (λ e. go (ltb limit n) refl e, λ h. ap (λ (c : Capped). c .capped) (capped-beyond h))
     where
-      go : (x : Bool) → ltb limit n ≡ x → cond {A = Capped} x (record { value = cap; capped = true }) (record { value = n; capped = false }) .capped ≡ true
-          → limit < n
+      told : Bool → Capped
+      told x = cond x (record { value = cap; capped = true }) (record { value = n; capped = false })
+
+      go : (x : Bool) → ltb limit n ≡ x → told x .capped ≡ true → limit < n
       go true f e = ltb-true limit n f
       go false f e = absurd (true≢false (sym e))
 
@@ -99,17 +101,23 @@ module _ (limit cap : ℕ) (s : List ℕ) (i : ℕ) where
   pub capped-of : (c : Capped) (e : ℕ) → capped-at limit cap s i ≡ some (c, e) → IsCapped c e
   capped-of c e d = go (eqb (run-end digit? s i) i) refl d
     where
+      worth : List ℕ → Capped
+      worth t = capped-number limit cap (number t)
+
+      here : List ℕ
+      here = run digit? (drop i s)
+
       answer : Bool → Option (Capped × ℕ)
-      answer x = cond x none (some (capped-number limit cap (number (run digit? (drop i s))), run-end digit? s i))
+      answer x = cond x none (some (worth here, run-end digit? s i))
 
       go : (x : Bool) → eqb (run-end digit? s i) i ≡ x → answer x ≡ some (c, e) → IsCapped c e
       go true f q = let z : _≡_ {A = ℕ} 0 1 = cc in absurd (omega arith)
       go false f q =
-          let both : _≡_ {A = Capped × ℕ} (capped-number limit cap (number (run digit? (drop i s))), run-end digit? s i) (c, e) = cc in
+          let both : _≡_ {A = Capped × ℕ} (worth here, run-end digit? s i) (c, e) = cc in
           let a : run-end digit? s i ≡ e = ap (λ (x : Capped × ℕ). x .1) both in
-          let b : capped-number limit cap (number (run digit? (drop i s))) ≡ c = ap (λ (x : Capped × ℕ). x .0) both in
+          let b : worth here ≡ c = ap (λ (x : Capped × ℕ). x .0) both in
           record {
             some = omega (arith, run-some digit? s i (eqb-false (run-end digit? s i) i f));
             end = sym a;
-            is = ap (λ (n : ℕ). capped-number limit cap (number (slice s i n))) (sym a) ∙ ap (λ (t : List ℕ). capped-number limit cap (number t)) (run-slice digit? s i) ∙ b;
+            is = ap (λ (n : ℕ). worth (slice s i n)) (sym a) ∙ ap worth (run-slice digit? s i) ∙ b;
           }
