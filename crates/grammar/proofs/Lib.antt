@@ -11,6 +11,7 @@ pub mod Ahead
 pub mod Slices
 pub mod Loop
 pub mod Scans
+pub mod Endings
 pub mod Reach
 pub mod Demands
 pub mod Nested

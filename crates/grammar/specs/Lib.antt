@@ -4,6 +4,8 @@ pub mod Classes
 pub mod Beginnings
 pub mod Refusals
 pub mod Reading
+pub mod Endings
+pub mod Arguments
 pub mod Comparing
 pub mod Text
 pub mod helpers

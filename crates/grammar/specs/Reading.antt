@@ -15,20 +15,22 @@ use Rattle.grammar.specs.Refusals.{TOO_MANY_PARAMETERS, REPEATED_ATTRIBU
 abbrev pub value-limit : ℕ
 value-limit = 8192
 
--- The limits that a byte breaks: a number above its limit, more than 16 parameters, an attribute repeated, a comment nested too deep.
+-- The limits that a byte breaks: a number above its limit, more than 16 parameters, an attribute repeated, a comment nested too deep. And,
+-- where parts are judged once they have ended (Endings.antt), a part that does not fit, which is malformed.
 pub data Limit : Type 0 where
-  above crowded repeated deep : Limit
+  above crowded repeated deep unfit : Limit
 
 -- The faults of a well-formed value as a whole: no such date or time, a day name that disagrees with the date.
 pub data Fault : Type 0 where
   no-such-date wrong-day : Fault
 
--- their numbers; refusals 1 and 13 are none of them
+-- their numbers; 13 is none of them, and 1 only that of a part that does not fit
 abbrev pub limit-number : Limit → ℕ
 limit-number above = NUMBER_ABOVE_LIMIT
 limit-number crowded = TOO_MANY_PARAMETERS
 limit-number repeated = REPEATED_ATTRIBUTE
 limit-number deep = COMMENT_TOO_DEEP
+limit-number unfit = MALFORMED
 
 abbrev pub fault-number : Fault → ℕ
 fault-number no-such-date = NO_SUCH_DATE

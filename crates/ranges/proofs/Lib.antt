@@ -1,0 +1,5 @@
+pub mod Limits
+pub mod Numbers
+pub mod Scan
+pub mod Filled
+pub mod Examples
