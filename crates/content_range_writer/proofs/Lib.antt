@@ -1,0 +1,4 @@
+pub mod Writer
+pub mod Answers
+pub mod Demands
+pub mod Examples
