@@ -1,14 +1,18 @@
 -- The theorems of header values, for any kind of them: what a customer reads. Document 01, "Refusal numbers".
 use Prim.Native.Nat.{ℕ, zero, suc, _≤_}
 use native.Mathlib.Omega.{arith}
-use mathlib.Core.Path.{_≡_}
+use mathlib.Core.Path.{_≡_, refl, sym}
 use mathlib.Core.Logic.{_↔_}
+use mathlib.Core.Bool.{Bool, true, false, cond}
 use mathlib.Core.List.{List}
 use lib.Dec.{T}
 use lib.ListN.{length}
 use Rattle.grammar.specs.Grammar.{Part, Grammar, Parses}
 use Rattle.grammar.specs.Beginnings.{Longest}
-use Rattle.grammar.specs.Reading.{Rules, Limit, Passes, Breaks, Sound, Stays, Verdict, Answers}
+use Rattle.grammar.specs.Refusals.{OUT_OF_RANGE}
+use Rattle.grammar.specs.Reading.{Rules, Limit, Passes, Breaks, Sound, Stays, Verdict, refused, Answers}
+use Rattle.grammar.specs.Endings.{Judgement, judging}
+use Rattle.grammar.specs.Arguments.{Asked, out-of-range, in-range}
 use Rattle.grammar.specs.helpers.Derivative.{live, reach}
 use Rattle.grammar.specs.helpers.Judge.{header}
 use Rattle.grammar.specs.helpers.Checks.{fresh?}
@@ -50,3 +54,22 @@ module _ {L A : Type 0} (r : Rules L A)
   -- A limit that stays passed is broken at one place, the one that its row names.
   pub one-place : (l : Limit) → Stays r l → (s : List ℕ) (j k : ℕ) → Breaks r s l j → Breaks r s l k → j ≡ k
   one-place l stays = Places.one-place r fresh (deterministic-steady (r .grammar) fresh one-way) l stays
+
+  -- The same where parts are judged once they have ended, at their last byte. The rules of the kind are those for the value s.
+  pub judged-exactly : (j : Judgement L) (s : List ℕ) (v : Verdict A) → (header (judging j r s) s ≡ v) ↔ Answers (judging j r s) s v
+  judged-exactly j s = Exact.answers (judging j r s) fresh (deterministic-steady (r .grammar) fresh one-way) lives s
+
+-- "argument outside its range", before anything is read: over any test of the argument and whatever reading answers within its range.
+pub asked-exactly : {A : Type 0} (InRange : Type 0) (Answer : Verdict A → Type 0) (test : Bool) → (test ≡ true → InRange)
+    → (test ≡ false → InRange → ⊥) → (w : Verdict A) → ((v : Verdict A) → (w ≡ v) ↔ Answer v)
+    → (v : Verdict A) → (cond test w (refused OUT_OF_RANGE 0) ≡ v) ↔ Asked InRange Answer v
+asked-exactly InRange Answer true yes-in no-in w exact v = (λ e. in-range (yes-in refl) (exact v .0 e), λ a. go v a)
+  where
+    go : (x : Verdict _) → Asked InRange Answer x → w ≡ x
+    go x (out-of-range o) = absurd (o (yes-in refl))
+    go x (in-range {v = y} i a) = exact y .1 a
+asked-exactly InRange Answer false yes-in no-in w exact v = (λ e. rw (← e) (out-of-range (no-in refl)), λ a. go v a)
+  where
+    go : (x : Verdict _) → Asked InRange Answer x → refused OUT_OF_RANGE 0 ≡ x
+    go x (out-of-range o) = refl
+    go x (in-range i a) = absurd (no-in refl i)

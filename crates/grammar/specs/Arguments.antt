@@ -4,5 +4,5 @@ use Rattle.grammar.specs.Refusals.{OUT_OF_RANGE}
 
 -- "argument outside its range", at 0, "first of all"; within its range, the answer that reading asks for
 pub data Asked {A : Type 0} (InRange : Type 0) (Answer : Verdict A → Type 0) : Verdict A → Type 0 where
-  outside : (InRange → ⊥) → Asked InRange Answer (refused OUT_OF_RANGE 0)
-  within : {v : Verdict A} → InRange → Answer v → Asked InRange Answer v
+  out-of-range : (InRange → ⊥) → Asked InRange Answer (refused OUT_OF_RANGE 0)
+  in-range : {v : Verdict A} → InRange → Answer v → Asked InRange Answer v
