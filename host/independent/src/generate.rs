@@ -3,12 +3,17 @@
 mod bodies;
 mod cuttings;
 mod limits;
+mod ranges;
 mod trailers;
 mod values;
 
 pub use bodies::{any_body, body, frame, rooms};
 pub use cuttings::{cuttings, every_cutting, pieces_of, quotas};
 pub use limits::at_limits;
+pub use ranges::{
+    capped_range_sets, content_range, counted_range_sets, damaged_range_set, entity_lengths, long_range_sets,
+    range_set, short_range_sets,
+};
 pub use trailers::{
     allowed_name, allowed_names, body_with_names, forbidden_name, forbidden_names, trailers_with,
     trailers_with_each_byte,

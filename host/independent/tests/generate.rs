@@ -5,11 +5,17 @@ use independent::chunked::{decode, Decoded};
 use independent::generate::{allowed_name, allowed_names, forbidden_name, forbidden_names};
 use independent::generate::{any, at_limits, cuttings, every_cutting, pair, pieces_of, quotas, Kind, Rng};
 use independent::generate::{any_body, body, body_with_names};
+use independent::generate::{capped_range_sets, content_range, counted_range_sets, damaged_range_set};
+use independent::generate::{entity_lengths, long_range_sets, range_set, short_range_sets};
+use independent::grammar::parse;
+use independent::ranges::{self, Ranges};
 use independent::{delta, etag, language, media, url, version, Refused, Which};
 use std::cmp::Ordering;
 use std::collections::{BTreeSet, HashSet};
 
 const ROUNDS: usize = 20_000;
+/// Sets of ranges are longer than other values.
+const SET_ROUNDS: usize = 5_000;
 const ROOMS: usize = 60;
 
 /// The refusal's number, and 0 where there is none.
@@ -184,4 +190,186 @@ fn quotas_on_both_sides() {
     assert_eq!(quotas(0), [1, 2, usize::MAX]);
     assert_eq!(quotas(10), [1, 2, 5, 9, 10, 11, usize::MAX]);
     assert_eq!(quotas(usize::MAX).last(), Some(&usize::MAX));
+}
+
+/// What a set of ranges can come to.
+#[derive(Clone, Copy, Debug, PartialEq, Eq, PartialOrd, Ord)]
+enum Outcome {
+    Satisfiable,
+    Unsatisfiable,
+    /// A last below its first.
+    Backward,
+    Refused(u8),
+}
+
+fn outcome(input: &[u8], entity_length: u64) -> Outcome {
+    match ranges::read(input, entity_length) {
+        Ok(Ranges::Satisfiable(_)) => Outcome::Satisfiable,
+        Ok(Ranges::Unsatisfiable) => Outcome::Unsatisfiable,
+        // By the grammar alone it can be completed behind that place.
+        Err(refusal) if refusal.number == 1 && refusal.place < parse(ranges::grammar(), input).live => {
+            Outcome::Backward
+        }
+        Err(refusal) => Outcome::Refused(refusal.number),
+    }
+}
+
+fn outcomes<'a>(inputs: impl IntoIterator<Item = &'a Vec<u8>>, entity_length: u64) -> BTreeSet<Outcome> {
+    inputs.into_iter().map(|input| outcome(input, entity_length)).collect()
+}
+
+/// Of a well-formed set.
+fn element_count(input: &[u8]) -> usize {
+    1 + input.iter().filter(|byte| **byte == b',').count()
+}
+
+fn has(inputs: &[Vec<u8>], part: &str) -> bool {
+    inputs.iter().any(|input| input.windows(part.len()).any(|window| window == part.as_bytes()))
+}
+
+#[test]
+fn entity_lengths_on_both_sides() {
+    let mut rng = Rng::new(13);
+    let listed = [0, 1, 2, 10, 10_000, (1 << 63) - 2, (1 << 63) - 1, 1 << 63, u64::MAX];
+    let mut random = HashSet::new();
+    for _ in 0..100 {
+        let lengths = entity_lengths(&mut rng);
+        assert!(lengths.starts_with(&listed));
+        random.extend(lengths[listed.len()..].iter().map(|length| u64::BITS - length.leading_zeros()));
+    }
+    // From a few bits to all.
+    assert!((1..=64).filter(|bits| random.contains(bits)).count() > 50, "{random:?}");
+}
+
+#[test]
+fn short_sets_of_ranges() {
+    let inputs: HashSet<_> = short_range_sets().collect();
+    assert_eq!(inputs.len(), 1 + 8 + 64 + 512 + 4_096 + 32_768);
+    let is_short = |input: &Vec<u8>| {
+        let rest = input.strip_prefix(b"bytes=").expect("the unit");
+        rest.len() <= 5 && rest.iter().all(|byte| b"0159-, x".contains(byte))
+    };
+    assert!(inputs.iter().all(is_short));
+    let expected = [Outcome::Satisfiable, Outcome::Unsatisfiable, Outcome::Backward, Outcome::Refused(1)];
+    assert_eq!(outcomes(&inputs, 9), BTreeSet::from(expected));
+}
+
+/// They are well-formed, so that only 10 refuses them, and have each property that is asked of them.
+#[test]
+fn well_formed_sets_of_ranges() {
+    let mut rng = Rng::new(14);
+    let inputs: Vec<_> = (0..SET_ROUNDS).map(|_| range_set(10_000, &mut rng)).collect();
+    let expected = [Outcome::Satisfiable, Outcome::Unsatisfiable, Outcome::Refused(10)];
+    assert_eq!(outcomes(&inputs, 10_000), BTreeSet::from(expected));
+    for input in &inputs {
+        assert_eq!(outcome(input, 10_000) == Outcome::Refused(10), element_count(input) > 16);
+    }
+    let counts: BTreeSet<_> = inputs.iter().map(|input| element_count(input)).collect();
+    assert_eq!(counts, (1..=20).collect());
+    let unit = |bytes: &[u8]| inputs.iter().any(|input| input.starts_with(bytes));
+    assert!(unit(b"bytes=") && unit(b"BYTES=") && unit(b"bYtEs="));
+    for part in [" ,", "\t,", ", ", ",\t", "-,", ",-", "=-", "-0", "=00", "-00", "9999-", "-10000", "-10001"]
+    {
+        assert!(has(&inputs, part), "{part:?}");
+    }
+    for number in
+        ["9223372036854775807", "9223372036854775808", "18446744073709551615", "18446744073709551616"]
+    {
+        assert!(has(&inputs, &format!("{number}-")) && has(&inputs, &format!("-{number}")), "{number}");
+    }
+    let runs = |input: &Vec<u8>| input.split(|byte| !byte.is_ascii_digit()).map(<[u8]>::len).max();
+    assert!(inputs.iter().any(|input| runs(input) >= Some(100)));
+}
+
+#[test]
+fn damaged_sets_of_ranges() {
+    let mut rng = Rng::new(15);
+    let inputs: Vec<_> = (0..SET_ROUNDS).map(|_| damaged_range_set(10_000, &mut rng)).collect();
+    let expected = [
+        Outcome::Satisfiable,
+        Outcome::Unsatisfiable,
+        Outcome::Backward,
+        Outcome::Refused(1),
+        Outcome::Refused(10),
+    ];
+    assert_eq!(outcomes(&inputs, 10_000), BTreeSet::from(expected));
+    // Some only end too early, and some go on behind the refused byte.
+    let malformed = |input: &&Vec<u8>| outcome(input, 10_000) == Outcome::Refused(1);
+    let is_early = |input: &Vec<u8>| parse(ranges::grammar(), input).live == input.len();
+    let early = inputs.iter().filter(malformed).filter(|input| is_early(input)).count();
+    let late = inputs.iter().filter(malformed).filter(|input| !is_early(input)).count();
+    assert!(early > SET_ROUNDS / 20 && late > SET_ROUNDS / 20, "{early}, {late}");
+}
+
+/// With 16 elements and more, with a last below its first in front of the seventeenth, there, and behind it.
+#[test]
+fn sets_of_about_sixteen_ranges() {
+    let inputs = counted_range_sets();
+    let answers = [Outcome::Satisfiable, Outcome::Backward, Outcome::Refused(1), Outcome::Refused(10)];
+    assert_eq!(outcomes(&inputs, 10_000), BTreeSet::from(answers));
+    let backward = |input: &Vec<u8>| {
+        let elements = input[6..].split(|byte| *byte == b',');
+        elements.map(|element| element.trim_ascii()).position(|element| element == b"5-3")
+    };
+    for count in [16, 17, 18] {
+        let counted = || inputs.iter().filter(move |input| element_count(input) == count);
+        let plain: Vec<_> = counted().filter(|input| backward(input).is_none()).collect();
+        let read = if count > 16 { Outcome::Refused(10) } else { Outcome::Satisfiable };
+        assert!(outcomes(plain, 10_000).contains(&read));
+        for place in 0..count {
+            let there: Vec<_> = counted().filter(|input| backward(input) == Some(place)).collect();
+            let expected = if place < 16 { Outcome::Backward } else { Outcome::Refused(10) };
+            assert_eq!(outcomes(there, 10_000), BTreeSet::from([expected]), "{count}, {place}");
+        }
+    }
+}
+
+#[test]
+fn sets_of_about_8192_bytes() {
+    let inputs = long_range_sets();
+    let of_length = |length| inputs.iter().filter(move |input| input.len() == length);
+    let read = [
+        Outcome::Satisfiable,
+        Outcome::Unsatisfiable,
+        Outcome::Backward,
+        Outcome::Refused(1),
+        Outcome::Refused(10),
+    ];
+    assert_eq!(outcomes(of_length(8_191), 10_000), BTreeSet::from(read));
+    assert_eq!(outcomes(of_length(8_192), 10_000), BTreeSet::from(read));
+    assert_eq!(outcomes(of_length(8_193), 10_000), BTreeSet::from([Outcome::Refused(13)]));
+    assert_eq!(outcomes(of_length(8_193), 1 << 63), BTreeSet::from([Outcome::Refused(9)]));
+}
+
+#[test]
+fn sets_of_capped_numbers() {
+    let inputs = capped_range_sets();
+    let expected = [Outcome::Satisfiable, Outcome::Unsatisfiable, Outcome::Backward];
+    for length in [1, 10_000, (1 << 63) - 2, (1 << 63) - 1] {
+        assert_eq!(outcomes(&inputs, length), BTreeSet::from(expected), "{length}");
+    }
+    // First and last are both capped, or one is; of the latter the last alone is not malformed.
+    let input = |text: &str| inputs.contains(&text.as_bytes().to_vec());
+    assert!(input("bytes=9223372036854775809-009223372036854775808"));
+    assert!(input("bytes=9223372036854775808-9223372036854775806"));
+    assert!(input("bytes=9223372036854775806-9223372036854775808"));
+    assert!(input("bytes=-0018446744073709551616"));
+}
+
+/// Arguments that are written, that need more output, and that each bound refuses.
+#[test]
+fn arguments_of_the_range_writer() {
+    let mut rng = Rng::new(16);
+    let mut kinds = BTreeSet::new();
+    for _ in 0..ROUNDS {
+        let (first, last, length, out_len) = content_range(&mut rng);
+        let number = ranges::write_content_range(first, last, length, &mut vec![0; out_len])
+            .map_or_else(|refusal| refusal.number, |_| 0);
+        kinds.insert((number, first > last, last >= length, length > ranges::NUMBER_LIMIT));
+    }
+    let numbers: BTreeSet<_> = kinds.iter().map(|kind| kind.0).collect();
+    assert_eq!(numbers, BTreeSet::from([0, 8, 9]));
+    for bounds in [(true, false, false), (false, true, false), (false, false, true)] {
+        assert!(kinds.contains(&(9, bounds.0, bounds.1, bounds.2)), "{bounds:?}");
+    }
 }

@@ -15,11 +15,11 @@ use crate::HEADER_LIMIT;
 const MARGIN: usize = 2;
 
 /// `head`, the filler, `tail`: `length` bytes in all.
-fn padded(head: &[u8], filler: u8, tail: &[u8], length: usize) -> Vec<u8> {
+pub(super) fn padded(head: &[u8], filler: u8, tail: &[u8], length: usize) -> Vec<u8> {
     [head, &vec![filler; length - head.len() - tail.len()], tail].concat()
 }
 
-fn around(limit: usize) -> impl Iterator<Item = usize> {
+pub(super) fn around(limit: usize) -> impl Iterator<Item = usize> {
     limit - MARGIN..=limit + MARGIN
 }
 

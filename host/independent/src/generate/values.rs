@@ -13,8 +13,8 @@ const HOST: &[u8] = b"abzABZ09-.";
 const PATH: &[u8] = b"abzABZ09-_.!~*'();/:@&=+$, #%\x00\xff";
 const PATH_AS_SENT: &[u8] = b"-_.!~*'();/:@&=+$,";
 const COMMENT: &[u8] = b"abcXYZ019 \t<>@,;:/[]?={}\"\x80\xff";
-const BLANKS: &[u8] = b" \t";
-const DIGITS: &[u8] = b"0123456789";
+pub(super) const BLANKS: &[u8] = b" \t";
+pub(super) const DIGITS: &[u8] = b"0123456789";
 
 pub(super) fn value(kind: Kind, rng: &mut Rng) -> Vec<u8> {
     match kind {
@@ -73,7 +73,7 @@ fn two_spellings(kind: Kind, rng: &mut Rng) -> (Vec<u8>, Vec<u8>) {
     }
 }
 
-fn any_case(text: &[u8], rng: &mut Rng) -> Vec<u8> {
+pub(super) fn any_case(text: &[u8], rng: &mut Rng) -> Vec<u8> {
     let flip = |byte: &u8| match rng.below(3) {
         0 => byte.to_ascii_lowercase(),
         1 => byte.to_ascii_uppercase(),
@@ -93,7 +93,7 @@ fn near(limit: u64, rng: &mut Rng) -> u64 {
     }
 }
 
-fn spell_number(number: impl ToString, rng: &mut Rng) -> Vec<u8> {
+pub(super) fn spell_number(number: impl ToString, rng: &mut Rng) -> Vec<u8> {
     let zeros = if rng.once_in(4) { rng.below(6) } else { 0 };
     [vec![b'0'; zeros], number.to_string().into_bytes()].concat()
 }
