@@ -113,9 +113,11 @@ ends-backward (a ∷ b ∷ c ∷ ps) = ends-backward (b ∷ c ∷ ps)
 abbrev pub forward : Judgement Name
 forward = record { goes-on = λ l b. digit? b; misfit = ends-backward }
 
--- ## The rules for the value s, in an entity of n bytes
+-- ## The rules in an entity of n bytes: without that judgement, and for the value s
+
+abbrev pub plain-rules : ℕ → Rules Name Ranges
+plain-rules n =
+    record { grammar = byte-ranges; limit = limit; fault = λ ps. none; value = λ ps. answer (resolved n (elements capped ps)) }
 
 abbrev pub rules : ℕ → List ℕ → Rules Name Ranges
-rules n s =
-    judging forward
-    (record { grammar = byte-ranges; limit = limit; fault = λ ps. none; value = λ ps. answer (resolved n (elements capped ps)) }) s
+rules n s = judging forward (plain-rules n) s

@@ -19,6 +19,10 @@ Selects n (Suffix size) p = (p < n) × (n ≤ p + size)
 abbrev pub Covers : Range → ℕ → Type 0
 Covers r p = (r .first ≤ p) × (p ≤ r .last)
 
+-- the range is not empty and lies in an entity of n bytes
+abbrev pub InEntity : ℕ → Range → Type 0
+InEntity n r = (r .first ≤ r .last) × (r .last < n)
+
 -- one of the list is such; each of the list is
 abbrev pub Some : {A : Type 0} → (A → Type 0) → List A → Type 0
 Some P [] = ⊥
@@ -58,3 +62,7 @@ pub data Ranges : Type 0 where
 abbrev pub answer : List Range → Ranges
 answer [] = unsatisfiable
 answer (r ∷ rs) = satisfiable (length (r ∷ rs)) (r ∷ rs)
+
+abbrev pub ranges-in : Ranges → List Range
+ranges-in (satisfiable count rs) = rs
+ranges-in unsatisfiable = []

@@ -1,0 +1,67 @@
+-- The theorems of byte ranges: what a customer reads. The words quoted are those of request (iv) of document 02.
+use Prim.Native.Nat.{ℕ, _≤_}
+use native.Mathlib.Omega.{arith}
+use borrow.Author.Tests.{leb-true, leb-false}
+use mathlib.Core.Path.{_≡_, refl, sym, ap, subst, _∙_}
+use mathlib.Core.Logic.{_↔_}
+use mathlib.Core.List.{List, [], _∷_}
+use lib.Dec.{T, leb}
+use lib.ListN.{length}
+use Rattle.grammar.specs.Grammar.{Part, Parses, lower}
+use Rattle.grammar.specs.Reading.{Verdict, value, Answers, reads}
+use Rattle.grammar.specs.Arguments.{Asked, in-range}
+use Rattle.grammar.specs.helpers.Judge.{header}
+use Rattle.grammar.proofs.Deterministic.{deterministic?}
+use Rattle.grammar.proofs.Demands.{judged-exactly, asked-exactly, one-parse}
+use Rattle.octets.specs.Bytes.{digit?, blank?}
+use Rattle.octets.specs.Numbers.{number}
+use Rattle.ranges.specs.declared.Range.{Range}
+use Rattle.ranges.specs.Meaning.{Selects, Covers, Some, Each, InEntity, resolved, Ranges, answer, ranges-in}
+use Rattle.ranges.specs.Grammar.{Name, byte-ranges, largest, capped, elements, plain-rules, forward, rules}
+use Rattle.ranges.specs.Reading.{reading}
+use Rattle.ranges.proofs.Meaning.{covered, each-in}
+
+one-way : T (deterministic? byte-ranges)
+unfolding lower digit? blank?
+one-way = tt
+
+-- What `read` answers (its promise is `Answered n s r`): the ranges of a well-formed set, or the refusal of the row that applies first (9,
+-- then 13, then the lowest place among 1 and 10), and nothing else. A last below its first is one of the rules for s (`forward`).
+pub answers : (n : ℕ) (s : List ℕ) (v : Verdict Ranges) → (reading n s ≡ v) ↔ Asked (n ≤ 9223372036854775807) (Answers (rules n s) s) v
+answers n s =
+    asked-exactly (n ≤ largest) (Answers (rules n s) s) (leb n largest) (leb-true n largest)
+    (λ e h. absurd (omega (arith, leb-false n largest e))) (header (rules n s) s) (judged-exactly (plain-rules n) tt tt one-way forward s)
+
+-- A set that is read, and its parts.
+module _ (n : ℕ) (s : List ℕ) (v : Ranges) (e : reading n s ≡ value v) (ps : List (Part Name)) (p : Parses byte-ranges 0 s ps) where
+  read-is : (n ≤ largest) × (v ≡ answer (resolved n (elements capped ps)))
+  read-is = asked v (answers n s (value v) .0 e)
+    where
+      parts : (w : Ranges) → Answers (rules n s) s (value w) → w ≡ answer (resolved n (elements capped ps))
+      parts w (reads {ps = qs} l q sound f) =
+          ap (λ (rs : List (Part Name)). answer (resolved n (elements capped rs))) (one-parse (plain-rules n) tt tt one-way s qs ps q p)
+
+      asked : (w : Ranges) → Asked (n ≤ largest) (Answers (rules n s) s) (value w)
+          → (n ≤ largest) × (w ≡ answer (resolved n (elements capped ps)))
+      asked w (in-range i a) = (i, parts w a)
+
+  -- The table is the resolved elements in order: "The order sent is kept."
+  pub in-order : v ≡ answer (resolved n (elements capped ps))
+  in-order = read-is .1
+
+  ranges-are : ranges-in v ≡ resolved n (elements capped ps)
+  ranges-are = ap ranges-in in-order ∙ same (resolved n (elements capped ps))
+    where
+      same : (rs : List Range) → ranges-in (answer rs) ≡ rs
+      same [] = refl
+      same (r ∷ rs) = refl
+
+  -- Each byte of the entity is in some range of the answer exactly when it is in some element as RFC 2616 means it, numbers as sent.
+  pub every-byte : (at : ℕ) → Some (λ r. Covers r at) (ranges-in v) ↔ Some (λ x. Selects n x at) (elements number ps)
+  every-byte at =
+      let w = covered n at (read-is .0) ps in
+      (λ h. w .0 (subst (Some (λ r. Covers r at)) ranges-are h), λ h. subst (Some (λ r. Covers r at)) (sym ranges-are) (w .1 h))
+
+  -- Each range lies in the entity and is not empty.
+  pub in-entity : Each (InEntity n) (ranges-in v)
+  in-entity = subst (Each (InEntity n)) (sym ranges-are) (each-in n (elements capped ps))

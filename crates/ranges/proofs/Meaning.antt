@@ -1,0 +1,148 @@
+-- The ranges that elements are resolved to hold the bytes that the elements ask for, capped or not.
+use Prim.Native.Nat.{ℕ, suc, _+_, _-_, _≤_, _<_, min}
+use native.Mathlib.Omega.{arith}
+use borrow.Author.Tests.{ltb-true, ltb-false}
+use mathlib.Core.Path.{_≡_, refl, sym, ap}
+use mathlib.Core.Logic.{_⊎_, inl, inr, _↔_, ⊎-elim}
+use mathlib.Core.Bool.{Bool, true, false, cond}
+use mathlib.Core.List.{List, [], _∷_, _++_}
+use lib.Dec.{ltb}
+use Rattle.grammar.specs.Grammar.{Part}
+use Rattle.octets.specs.Numbers.{number, Capped}
+use Rattle.scans.proofs.Caps.{capped-within, capped-beyond}
+use Rattle.ranges.specs.declared.Element.{Element}
+use Rattle.ranges.specs.declared.Element.the-variants.{Closed, Open, Suffix}
+use Rattle.ranges.specs.declared.Range.{Range}
+use Rattle.ranges.specs.Meaning.{Selects, Covers, Some, Each, begin, end, kept, resolved, InEntity}
+use Rattle.ranges.specs.Grammar.{Name, largest, capped, sign?, positions, element-of, elements}
+
+-- ## Lists
+
+module _ {A : Type 0} (P : A → Type 0) where
+  some-append : (xs ys : List A) → Some P (xs ++ ys) ↔ (Some P xs ⊎ Some P ys)
+  some-append [] ys = (λ h. inr h, ⊎-elim (λ h. absurd h) (λ h. h))
+  some-append (x ∷ xs) ys = (to (some-append xs ys), back (some-append xs ys))
+    where
+      to : Some P (xs ++ ys) ↔ (Some P xs ⊎ Some P ys) → P x ⊎ Some P (xs ++ ys) → (P x ⊎ Some P xs) ⊎ Some P ys
+      to r (inl h) = inl (inl h)
+      to r (inr h) = ⊎-elim (λ u. inl (inr u)) (λ u. inr u) (r .0 h)
+
+      back : Some P (xs ++ ys) ↔ (Some P xs ⊎ Some P ys) → (P x ⊎ Some P xs) ⊎ Some P ys → P x ⊎ Some P (xs ++ ys)
+      back r (inl (inl h)) = inl h
+      back r (inl (inr h)) = inr (r .1 (inl h))
+      back r (inr h) = inr (r .1 (inr h))
+
+  each-append : (xs ys : List A) → Each P xs → Each P ys → Each P (xs ++ ys)
+  each-append [] ys h k = k
+  each-append (x ∷ xs) ys h k = (h .0, each-append xs ys (h .1) k)
+
+-- ## One element
+
+module _ (p b e : ℕ) where
+  kept-covers : Some (λ r. Covers r p) (kept b e) ↔ ((b ≤ p) × (p < e))
+  kept-covers = go (ltb b e) refl
+    where
+      go : (x : Bool) → ltb b e ≡ x
+          → Some (λ r. Covers r p) (cond x (record { first = b; last = e - 1 } ∷ []) []) ↔ ((b ≤ p) × (p < e))
+      go true f =
+          let h = ltb-true b e f in
+          (λ c. ⊎-elim (λ z. (z .0, omega (arith, z .1))) (λ z. absurd z) c, λ z. inl (z .0, omega (arith, z .1)))
+      go false f = (λ c. absurd c, λ z. absurd (omega (arith, ltb-false b e f, z .0, z .1)))
+
+kept-in : (n b e : ℕ) → e ≤ n → Each (InEntity n) (kept b e)
+kept-in n b e h = go (ltb b e) refl
+  where
+    go : (x : Bool) → ltb b e ≡ x → Each (InEntity n) (cond x (record { first = b; last = e - 1 } ∷ []) [])
+    go true f = let l = ltb-true b e f in ((omega arith, omega arith), tt)
+    go false f = tt
+
+end-in : (n : ℕ) (x : Element) → end n x ≤ n
+end-in n (Closed f l) = omega arith
+end-in n (Open f) = omega arith
+end-in n (Suffix m) = omega arith
+
+spans : (n p : ℕ) (x : Element) → ((begin n x ≤ p) × (p < end n x)) ↔ Selects n x p
+spans n p (Closed f l) = (λ z. (omega (arith, z .1), z .0, omega (arith, z .1)), λ z. (z .1, omega (arith, z .0, z .2)))
+spans n p (Open f) = (λ z. (z .1, z .0), λ z. (z .1, z .0))
+spans n p (Suffix m) = (λ z. (z .1, omega (arith, z .0)), λ z. (omega (arith, z .1), z .0))
+
+-- ## Capped or not
+
+-- in an entity that is not too long no position and no suffix tells a number from its cap
+module _ (n p : ℕ) (small : n ≤ largest) (inside : p < n) (t : List ℕ) where
+  cases : (capped t ≡ number t) ⊎ ((capped t ≡ largest) × (largest < number t))
+  cases = go (ltb largest (number t)) refl
+    where
+      go : (x : Bool) → ltb largest (number t) ≡ x → (capped t ≡ number t) ⊎ ((capped t ≡ largest) × (largest < number t))
+      go true f =
+          let h = ltb-true largest (number t) f in
+          inr (ap (λ (c : Capped). c .value) (capped-beyond largest largest (number t) h), h)
+      go false f = inl (ap (λ (c : Capped). c .value) (capped-within largest largest (number t) (ltb-false largest (number t) f)))
+
+  first-alike : (capped t ≤ p) ↔ (number t ≤ p)
+  first-alike = ⊎-elim (λ e. (λ h. omega arith, λ h. omega arith))
+      (λ e. (λ h. absurd (omega (arith, e .0, e .1)), λ h. absurd (omega (arith, e .0, e .1)))) cases
+
+  last-alike : (p ≤ capped t) ↔ (p ≤ number t)
+  last-alike = ⊎-elim (λ e. (λ h. omega arith, λ h. omega arith))
+      (λ e. (λ h. omega (arith, e .0, e .1), λ h. omega (arith, e .0, e .1))) cases
+
+  suffix-alike : (n ≤ p + capped t) ↔ (n ≤ p + number t)
+  suffix-alike = ⊎-elim (λ e. (λ h. omega arith, λ h. omega arith))
+      (λ e. (λ h. omega (arith, e .0, e .1), λ h. omega (arith, e .0, e .1))) cases
+
+module _ (n p : ℕ) (small : n ≤ largest) where
+  positions-alike : (f l : List ℕ) → Selects n (positions capped f l) p ↔ Selects n (positions number f l) p
+  positions-alike f [] = (
+    λ z. (z .0, first-alike n p small (z .0) f .0 (z .1)),
+    λ z. (z .0, first-alike n p small (z .0) f .1 (z .1)),
+  )
+  positions-alike f (b ∷ l) = (
+    λ z. (z .0, first-alike n p small (z .0) f .0 (z .1), last-alike n p small (z .0) (b ∷ l) .0 (z .2)),
+    λ z. (z .0, first-alike n p small (z .0) f .1 (z .1), last-alike n p small (z .0) (b ∷ l) .1 (z .2)),
+  )
+
+  element-alike : (a b : Part Name) → Selects n (element-of capped a b) p ↔ Selects n (element-of number a b) p
+  element-alike a b = go (sign? (a .label))
+    where
+      go : (x : Bool)
+          → Selects n (cond x (Suffix (capped (b .text))) (positions capped (a .text) (b .text))) p
+          ↔ Selects n (cond x (Suffix (number (b .text))) (positions number (a .text) (b .text))) p
+      go true = (
+        λ z. (z .0, suffix-alike n p small (z .0) (b .text) .0 (z .1)),
+        λ z. (z .0, suffix-alike n p small (z .0) (b .text) .1 (z .1)),
+      )
+      go false = positions-alike (a .text) (b .text)
+
+  -- ## All of them
+
+  pub covered : (ps : List (Part Name))
+      → Some (λ r. Covers r p) (resolved n (elements capped ps)) ↔ Some (λ x. Selects n x p) (elements number ps)
+  covered [] = (λ h. h, λ h. h)
+  covered (a ∷ []) = (λ h. h, λ h. h)
+  covered (a ∷ b ∷ ps) = (to (covered ps), back (covered ps))
+    where
+      x : Element
+      x = element-of capped a b
+
+      Here : Type 0
+      Here = Some (λ r. Covers r p) (resolved n (elements capped ps)) ↔ Some (λ y. Selects n y p) (elements number ps)
+
+      to : Here → Some (λ r. Covers r p) (kept (begin n x) (end n x) ++ resolved n (elements capped ps))
+          → Selects n (element-of number a b) p ⊎ Some (λ y. Selects n y p) (elements number ps)
+      to w h =
+          ⊎-elim (λ u. inl (element-alike a b .0 (spans n p x .0 (kept-covers p (begin n x) (end n x) .0 u)))) (λ u. inr (w .0 u))
+          (some-append (λ r. Covers r p) (kept (begin n x) (end n x)) (resolved n (elements capped ps)) .0 h)
+
+      back : Here → Selects n (element-of number a b) p ⊎ Some (λ y. Selects n y p) (elements number ps)
+          → Some (λ r. Covers r p) (kept (begin n x) (end n x) ++ resolved n (elements capped ps))
+      back w (inl u) =
+          some-append (λ r. Covers r p) (kept (begin n x) (end n x)) (resolved n (elements capped ps)) .1
+          (inl (kept-covers p (begin n x) (end n x) .1 (spans n p x .1 (element-alike a b .1 u))))
+      back w (inr u) =
+          some-append (λ r. Covers r p) (kept (begin n x) (end n x)) (resolved n (elements capped ps)) .1 (inr (w .1 u))
+
+pub each-in : (n : ℕ) (xs : List Element) → Each (InEntity n) (resolved n xs)
+each-in n [] = tt
+each-in n (x ∷ xs) =
+    each-append (InEntity n) (kept (begin n x) (end n x)) (resolved n xs) (kept-in n (begin n x) (end n x) (end-in n x)) (each-in n xs)
