@@ -12,7 +12,7 @@ use Rattle.grammar.specs.Grammar.{Part, past}
 use Rattle.grammar.specs.Endings.{Judgement, stops, ended}
 
 module _ {L : Type 0} (j : Judgement L) (s : List ℕ) (k : ℕ) where
-  ended-last : (cs : List (Part L)) (c : Part L)
+  pub ended-last : (cs : List (Part L)) (c : Part L)
       → ended j s k (cs ++ c ∷ []) ≡ (eqb (past (c .start) (c .text)) (suc k) && stops j c (drop (suc k) s))
   ended-last [] c = refl
   ended-last (d ∷ []) c = refl

@@ -3,5 +3,7 @@ pub mod Numbers
 pub mod Scan
 pub mod Filled
 pub mod Meaning
+pub mod Parts
+pub mod Exact
 pub mod Demands
 pub mod Examples

@@ -29,13 +29,13 @@ pub opened-same : (ps : List (Part Name)) (c : Part Name) → opens? (c .label) 
 opened-same ps c e = opened-append ps (c ∷ []) ∙ rw e (omega arith)
 
 -- the last two parts are compared, and no others
-backward-last : (ps : List (Part Name)) (a b : Part Name) → ends-backward (ps ++ a ∷ b ∷ []) ≡ backward a b
+pub backward-last : (ps : List (Part Name)) (a b : Part Name) → ends-backward (ps ++ a ∷ b ∷ []) ≡ backward a b
 backward-last [] a b = refl
 backward-last (c ∷ []) a b = refl
 backward-last (c ∷ d ∷ []) a b = refl
 backward-last (c ∷ d ∷ e ∷ ps) a b = backward-last (d ∷ e ∷ ps) a b
 
-not-backward : (ps : List (Part Name)) (c : Part Name) → last? (c .label) ≡ false → ends-backward (ps ++ c ∷ []) ≡ false
+pub not-backward : (ps : List (Part Name)) (c : Part Name) → last? (c .label) ≡ false → ends-backward (ps ++ c ∷ []) ≡ false
 not-backward [] c f = refl
 not-backward (a ∷ []) c f = rw f
 not-backward (a ∷ b ∷ []) c f = rw f

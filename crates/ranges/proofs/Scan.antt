@@ -44,7 +44,7 @@ use Rattle.ranges.proofs.Limits.{opened-one, opened-same, within-limit,
 
 -- ## Bytes that tell what comes next
 
-minus-no-digit : digit? 45 ≡ false
+pub minus-no-digit : digit? 45 ≡ false
 unfolding digit?
 minus-no-digit = refl
 
@@ -85,7 +85,7 @@ behind-sign = part suffix (plus (byte DIGIT)) ⨾ others
 behind-first-apart : (j b : ℕ) → digit? b ≡ true → deriv behind-first j b ≡ void
 behind-first-apart j b e = rw (told-apart digit? b 45 e minus-no-digit)
 
-others-apart : (j b : ℕ) → digit? b ≡ true → deriv others j b ≡ void
+pub others-apart : (j b : ℕ) → digit? b ≡ true → deriv others j b ≡ void
 others-apart j b e = rw (digit-no-blank b e, told-apart digit? b 44 e comma-no-digit)
 
 first-begins : (j b : ℕ) → digit? b ≡ true → deriv at-element j b ≡ deriv (part first (plus (byte DIGIT)) ⨾ behind-first) j b

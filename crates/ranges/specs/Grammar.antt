@@ -3,7 +3,7 @@
 -- any case, blanks may stand only around commas, and an empty element is malformed (house rule)."
 use Prim.Native.Nat.{ℕ, suc}
 use Prim.Native.Char.{code}
-use mathlib.Core.Bool.{Bool, true, false, cond, _&&_}
+use mathlib.Core.Bool.{Bool, true, false, cond, _&&_, not}
 use mathlib.Core.List.{List, [], _∷_}
 use mathlib.Core.Option.{Option, none, some}
 use lib.Dec.{ltb}
@@ -109,9 +109,10 @@ ends-backward (a ∷ []) = false
 ends-backward (a ∷ b ∷ []) = backward a b
 ends-backward (a ∷ b ∷ c ∷ ps) = ends-backward (b ∷ c ∷ ps)
 
--- "A last below its first, once its digits end, is malformed at its last digit, whatever follows."
+-- "A last below its first, once its digits end, is malformed at its last digit, whatever follows." Digits go on with a number, and nothing
+-- with a sign.
 abbrev pub forward : Judgement Name
-forward = record { goes-on = λ l b. digit? b; misfit = ends-backward }
+forward = record { goes-on = λ l b. not (sign? l) && digit? b; misfit = ends-backward }
 
 -- ## The rules in an entity of n bytes: without that judgement, and for the value s
 

@@ -15,6 +15,12 @@ Selects n (Closed first last) p = (p < n) × (first ≤ p) × (p ≤ last)
 Selects n (Open first) p = (p < n) × (first ≤ p)
 Selects n (Suffix size) p = (p < n) × (n ≤ p + size)
 
+-- its last position is not below its first
+abbrev pub Forward : Element → Type 0
+Forward (Closed first last) = first ≤ last
+Forward (Open first) = Unit
+Forward (Suffix size) = Unit
+
 -- the byte at p is one of the range
 abbrev pub Covers : Range → ℕ → Type 0
 Covers r p = (r .first ≤ p) × (p ≤ r .last)
