@@ -12,6 +12,7 @@ pub mod Slices
 pub mod Loop
 pub mod Scans
 pub mod Endings
+pub mod Follows
 pub mod Reach
 pub mod Demands
 pub mod Nested
