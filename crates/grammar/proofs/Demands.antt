@@ -4,20 +4,21 @@ use native.Mathlib.Omega.{arith}
 use mathlib.Core.Path.{_≡_, refl, sym}
 use mathlib.Core.Logic.{_↔_}
 use mathlib.Core.Bool.{Bool, true, false, cond}
-use mathlib.Core.List.{List}
+use mathlib.Core.List.{List, _++_}
 use lib.Dec.{T}
 use lib.ListN.{length}
 use Rattle.grammar.specs.Grammar.{Part, Grammar, Parses}
 use Rattle.grammar.specs.Beginnings.{Longest}
-use Rattle.grammar.specs.Refusals.{OUT_OF_RANGE}
-use Rattle.grammar.specs.Reading.{Rules, Limit, Passes, Breaks, Sound, Stays, Verdict, refused, Answers}
-use Rattle.grammar.specs.Endings.{Judgement, judging}
+use Rattle.grammar.specs.Refusals.{MALFORMED, OUT_OF_RANGE}
+use Rattle.grammar.specs.Reading.{value-limit, Rules, Limit, Passes, Breaks, Sound, Stays, Verdict, refused, Answers}
+use Rattle.grammar.specs.Endings.{Judgement, stops, judging}
 use Rattle.grammar.specs.Arguments.{Asked, out-of-range, in-range}
 use Rattle.grammar.specs.helpers.Derivative.{live, reach}
 use Rattle.grammar.specs.helpers.Judge.{header}
 use Rattle.grammar.specs.helpers.Checks.{fresh?}
 use Rattle.grammar.proofs.Exact as Exact
 use Rattle.grammar.proofs.Places as Places
+use Rattle.grammar.proofs.Follows as Follows
 use Rattle.grammar.proofs.Deterministic.{deterministic?, deterministic-steady}
 use Rattle.grammar.proofs.Reach.{reach-longest}
 
@@ -58,6 +59,23 @@ module _ {L A : Type 0} (r : Rules L A)
   -- The same where parts are judged once they have ended, at their last byte. The rules of the kind are those for the value s.
   pub judged-exactly : (j : Judgement L) (s : List ℕ) (v : Verdict A) → (header (judging j r s) s ≡ v) ↔ Answers (judging j r s) s v
   judged-exactly j s = Exact.answers (judging j r s) fresh (deterministic-steady (r .grammar) fresh one-way) lives s
+
+-- That judgement, for any grammar.
+module _ {L A : Type 0} (j : Judgement L) (r : Rules L A) where
+  -- A kind in which every part fits is answered as without it.
+  pub nothing-judged : ((ps : List (Part L)) → j .misfit ps ≡ false) → (s : List ℕ) → header (judging j r s) s ≡ header r s
+  nothing-judged = Follows.nothing-judged j r
+
+  -- "malformed at its last digit, whatever follows" (document 02, request (iv)): a value p that is malformed at its last byte stays so,
+  -- whatever u follows that does not go on with the part.
+  pub whatever-follows : (p u : List ℕ) (k : ℕ) → suc k ≡ length p → header (judging j r p) p ≡ refused MALFORMED k
+      → ((c : Part L) → stops j c u ≡ true) → length (p ++ u) ≤ value-limit → header (judging j r (p ++ u)) (p ++ u) ≡ refused MALFORMED k
+  whatever-follows = Follows.whatever-follows j r
+
+  -- And it was so before u came: the end of the value ends a part as another byte does.
+  pub refused-alone : (p u : List ℕ) (k : ℕ) → suc k ≡ length p → header (judging j r (p ++ u)) (p ++ u) ≡ refused MALFORMED k
+      → ((c : Part L) → stops j c u ≡ true) → length (p ++ u) ≤ value-limit → header (judging j r p) p ≡ refused MALFORMED k
+  refused-alone = Follows.refused-alone j r
 
 -- "argument outside its range", before anything is read: over any test of the argument and whatever reading answers within its range.
 pub asked-exactly : {A : Type 0} (InRange : Type 0) (Answer : Verdict A → Type 0) (test : Bool) → (test ≡ true → InRange)

@@ -13,6 +13,7 @@ pub mod Loop
 pub mod Scans
 pub mod Endings
 pub mod Order
+pub mod Follows
 pub mod Reach
 pub mod Demands
 pub mod Nested

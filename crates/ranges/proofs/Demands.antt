@@ -1,17 +1,21 @@
 -- The theorems of byte ranges: what a customer reads. The words quoted are those of request (iv) of document 02.
-use Prim.Native.Nat.{ℕ, _≤_}
+use Prim.Native.Nat.{ℕ, suc, _≤_}
 use native.Mathlib.Omega.{arith}
 use borrow.Author.Tests.{leb-true, leb-false}
 use mathlib.Core.Path.{_≡_, refl, sym, ap, subst, _∙_}
 use mathlib.Core.Logic.{_↔_}
-use mathlib.Core.List.{List, [], _∷_}
+use mathlib.Core.Bool.{Bool, true, false, cond}
+use mathlib.Core.List.{List, [], _∷_, _++_}
 use lib.Dec.{T, leb}
 use lib.ListN.{length}
 use Rattle.grammar.specs.Grammar.{Part, Parses, lower}
-use Rattle.grammar.specs.Reading.{Verdict, value, Answers, reads}
+use Rattle.grammar.specs.Refusals.{MALFORMED, OUT_OF_RANGE}
+use Rattle.grammar.specs.Reading.{value-limit, Verdict, value, refused, Answers, reads}
+use Rattle.grammar.specs.Endings.{stops}
 use Rattle.grammar.specs.Arguments.{Asked, in-range}
 use Rattle.grammar.specs.helpers.Judge.{header}
 use Rattle.grammar.proofs.Deterministic.{deterministic?}
+use Rattle.grammar.proofs.Demands as Kinds
 use Rattle.grammar.proofs.Demands.{judged-exactly, asked-exactly, one-parse}
 use Rattle.octets.specs.Bytes.{digit?, blank?}
 use Rattle.octets.specs.Numbers.{number}
@@ -31,6 +35,26 @@ pub answers : (n : ℕ) (s : List ℕ) (v : Verdict Ranges) → (reading n s ≡
 answers n s =
     asked-exactly (n ≤ largest) (Answers (rules n s) s) (leb n largest) (leb-true n largest)
     (λ e h. absurd (omega (arith, leb-false n largest e))) (header (rules n s) s) (judged-exactly (plain-rules n) tt tt one-way forward s)
+
+-- nothing follows, or another byte than a digit
+abbrev pub NoDigit : List ℕ → Type 0
+NoDigit [] = Unit
+NoDigit (b ∷ u) = digit? b ≡ false
+
+-- "A last below its first, once its digits end, is malformed at its last digit, whatever follows": a value p that is malformed at its last
+-- byte stays so, whatever u follows that is not a digit more.
+pub whatever-follows : (n : ℕ) (p u : List ℕ) (k : ℕ) → suc k ≡ length p → reading n p ≡ refused MALFORMED k → NoDigit u
+    → length (p ++ u) ≤ value-limit → reading n (p ++ u) ≡ refused MALFORMED k
+whatever-follows n p u k e q off short = go (leb n largest) q
+  where
+    stopped : (t : List ℕ) → NoDigit t → (c : Part Name) → stops forward c t ≡ true
+    stopped [] o c = refl
+    stopped (b ∷ t) o c = rw o
+
+    go : (x : Bool) → cond x (header (rules n p) p) (refused OUT_OF_RANGE 0) ≡ refused MALFORMED k
+        → cond x (header (rules n (p ++ u)) (p ++ u)) (refused OUT_OF_RANGE 0) ≡ refused MALFORMED k
+    go true y = Kinds.whatever-follows forward (plain-rules n) p u k e y (stopped u off) short
+    go false y = let z : _≡_ {A = ℕ} 9 1 = cc in absurd (omega arith)
 
 -- A set that is read, and its parts.
 module _ (n : ℕ) (s : List ℕ) (v : Ranges) (e : reading n s ≡ value v) (ps : List (Part Name)) (p : Parses byte-ranges 0 s ps) where
