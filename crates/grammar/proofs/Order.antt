@@ -55,7 +55,7 @@ module _ {L : Type 0} (j : Judgement L) where
       let g = h .0 in
       let v = h .1 in
       let there = past-append i g (c .text ++ v) ∙ past-append (past i g) (c .text) v
-          ∙ ap (λ (m : ℕ). past (past m (c .text)) v) (h .3) in
+      ∙ ap (λ (m : ℕ). past (past m (c .text)) v) (h .3) in
       let e = ap (past i) (h .2) ∙ there in (
         g,
         v ++ u,
@@ -111,7 +111,7 @@ module _ {L : Type 0} (j : Judgement L) where
   all-before n i t w [] h k = refl
   all-before n i t w (c ∷ ps) h k =
       let e = ap (past i) (h .2) ∙ past-append i (h .0) (c .text ++ h .1) ∙ past-append (past i (h .0)) (c .text) (h .1)
-          ∙ ap (λ (m : ℕ). past (past m (c .text)) (h .1)) (h .3) in
+      ∙ ap (λ (m : ℕ). past (past m (c .text)) (h .1)) (h .3) in
       let a = past-length (past (c .start) (c .text)) (h .1) in
       let b = past-length (c .start) (c .text) in
       ap (λ (x : Bool). cond x (cut n c ∷ parts-before n ps) (parts-before n ps)) (lt-ltb (c .start) n (omega (arith, e, a, b)))
@@ -169,7 +169,7 @@ module _ {L : Type 0} (j : Judgement L) where
           })
       go true f (inr r) =
           let x = split-at (past (c .start) (c .text)) (h .1) w (r .front) (r .one) (r .back)
-              (subst (Laid (past (c .start) (c .text)) (h .1) w) (r .all) (h .5)) in
+          (subst (Laid (past (c .start) (c .text)) (h .1) w) (r .all) (h .5)) in
           let b = past-length (past (c .start) (c .text)) (x .p) in
           inr (record {
             front = c ∷ r .front;
@@ -207,6 +207,18 @@ module _ {L A : Type 0} (j : Judgement L) (r : Rules L A) (fresh : T (fresh? (r 
   held-is n h =
       sym (begun-parts q fresh steady (take n s) (drop n s) ps (reads-on n)) ∙ ap (λ (m : ℕ). parts-before m ps) (length-take-le n s h)
 
+  -- which limit is passed with a byte, by the parts of the whole text
+  module _ (l : Limit) (k : ℕ) (inside : suc k ≤ length s) where
+    pub passed-with : Passes q s l (suc k) → q .limit k (parts-before (suc k) ps) ≡ some l
+    passed-with v = ap (q .limit k) (sym (so-far q fresh steady (take (suc k) s) (v .0) (v .1) .1 ∙ held-is (suc k) inside)) ∙ v .2
+
+    pub passes-with : q .limit k (parts-before (suc k) ps) ≡ some l → Passes q s l (suc k)
+    passes-with e = (
+      held (left (suc k)),
+      of-live q fresh steady (take (suc k) s) (live-of (left (suc k)) (past 0 (take (suc k) s)) (drop (suc k) s) ps (reads-on (suc k))),
+      ap (q .limit k) (held-is (suc k) inside) ∙ e,
+    )
+
   -- where no byte passes it
   pub fits-of : ((k : ℕ) → k ≤ length s → Passes q s unfit k → ⊥) → Fits
   fits-of never qs c rs e some-byte = go (j .misfit (qs ++ c ∷ [])) refl
@@ -243,15 +255,12 @@ module _ {L A : Type 0} (j : Judgement L) (r : Rules L A) (fresh : T (fresh? (r 
           ended-last j s k qs c
           ∙ rw (next, eq-eqb n n refl, follows) (x .whole .outer)
 
-      parts-are : held (left n) ≡ qs ++ c ∷ []
-      parts-are = held-is n inside ∙ ap (parts-before n) e ∙ last-before j 0 s [] qs c rs (subst (Laid j 0 s []) e laid) some-byte
+      parts-are : parts-before (suc k) ps ≡ qs ++ c ∷ []
+      parts-are =
+          ap₂ parts-before next e ∙ last-before j 0 s [] qs c rs (subst (Laid j 0 s []) e laid) some-byte
 
       passes : j .misfit (qs ++ c ∷ []) ≡ true → Passes q s unfit (suc k)
-      passes f = (
-        held (left (suc k)),
-        of-live q fresh steady (take (suc k) s) (live-of (left (suc k)) (past 0 (take (suc k) s)) (drop (suc k) s) ps (reads-on (suc k))),
-        ap (q .limit k) (ap (λ (m : ℕ). held (left m)) next ∙ parts-are) ∙ rw (ends-there, f),
-      )
+      passes f = passes-with unfit k (omega (arith, next, inside)) (ap (q .limit k) parts-are ∙ rw (ends-there, f))
 
       go : (y : Bool) → j .misfit (qs ++ c ∷ []) ≡ y → y ≡ false
       go true f = absurd (never (suc k) (omega (arith, next, inside)) (passes f))
@@ -315,8 +324,7 @@ module _ {L A : Type 0} (j : Judgement L) (r : Rules L A) (fresh : T (fresh? (r 
     pub never-unfit : (k : ℕ) → k ≤ length s → Passes q s unfit k → ⊥
     never-unfit zero h v = v
     never-unfit (suc k) h v =
-        let are = so-far q fresh steady (take (suc k) s) (v .0) (v .1) .1 ∙ held-is (suc k) h in
-        let bad = judged-bad k (parts-before (suc k) ps) (ap (q .limit k) (sym are) ∙ v .2) in
+        let bad = judged-bad k (parts-before (suc k) ps) (passed-with unfit k h v) in
         ⊎-elim
         (λ e. true≢false (sym bad ∙ ap (λ (rs : List (Part L)). ended j s k rs && j .misfit rs) e))
         (λ w. unfit-last k (omega arith) w bad)

@@ -7,21 +7,30 @@ use mathlib.Core.Logic.{_⊎_, inl, inr}
 use mathlib.Core.Bool.{Bool, true, false, cond, _&&_, true≢false}
 use mathlib.Core.List.{List, [], _∷_, _++_, append-assoc}
 use mathlib.Core.Option.{Option, none, some}
-use lib.Dec.{ltb}
+use lib.Dec.{T, ltb}
 use lib.ListN.{length, take}
-use Rattle.grammar.specs.Grammar.{Part, past}
-use Rattle.grammar.specs.Reading.{Limit, unfit, crowded, parts-before}
+use Rattle.grammar.specs.Grammar.{Part, Parses, lower, past}
+use Rattle.grammar.specs.Reading.{Limit, unfit, crowded, parts-before, Passes}
+use Rattle.grammar.specs.Endings.{ended}
 use Rattle.grammar.proofs.Derivative.{past-append}
+use Rattle.grammar.proofs.Deterministic.{deterministic?, deterministic-steady}
+use Rattle.grammar.proofs.Exact.{Steady}
 use Rattle.grammar.proofs.Longest.{past-length}
-use Rattle.grammar.proofs.Order.{Laid}
+use Rattle.grammar.proofs.Order.{Laid, passed-with, passes-with, fits-of, never-unfit}
+use Rattle.octets.specs.Bytes.{digit?, blank?}
 use Rattle.ranges.specs.declared.Element.{Element}
 use Rattle.ranges.specs.declared.Element.the-variants.{Closed}
 use Rattle.ranges.specs.Meaning.{Each, Forward}
 use Rattle.ranges.specs.Grammar.{Name, sign?, opens?, last?, capped, positions, element-of, elements, opened, backward, ends-backward}
-use Rattle.ranges.specs.Grammar.{element-limit, limit, forward}
+use Rattle.ranges.specs.Grammar.{byte-ranges, element-limit, limit, forward, plain-rules, rules}
 use Rattle.ranges.specs.Parts.{ElementParts, InTurn}
 use Rattle.ranges.proofs.Limits.{backward-last, not-backward}
-use Rattle.ranges.proofs.Parts.{Opened}
+use Rattle.ranges.proofs.Parts.{Opened, Standing, standing}
+
+-- no set can be read in two ways
+pub one-way : T (deterministic? byte-ranges)
+unfolding lower digit? blank?
+one-way = tt
 
 -- ## Forward
 
@@ -125,3 +134,100 @@ opened-some n (c ∷ ps) = go (ltb (c .start) n) (opens? (c .label)) refl (opene
     go true false f r = rw f r
     go false true f r = omega arith
     go false false f r = r
+
+opened-none : (ps : List (Part Name)) → opened (parts-before 0 ps) ≡ 0
+opened-none [] = refl
+opened-none (c ∷ ps) = rw (le-ltb (c .start) 0 (omega arith)) (opened-none ps)
+
+-- before the end of the text all have begun
+opened-all : (n i : ℕ) (t w : List ℕ) (ps : List (Part Name)) → Laid forward i t w ps → Opened ps → past i t ≤ n
+    → opened (parts-before n ps) ≡ opened ps
+opened-all n i t w [] h o k = refl
+opened-all n i t w (c ∷ ps) h o k =
+    go (ltb (c .start) n) (opens? (c .label)) refl refl (opened-all n (past (c .start) (c .text)) (h .1) w ps (h .5) (o .1) (omega (arith, e)))
+  where
+    e : past i t ≡ past (past (c .start) (c .text)) (h .1)
+    e = ap (past i) (h .2) ∙ past-append i (h .0) (c .text ++ h .1) ∙ past-append (past i (h .0)) (c .text) (h .1)
+        ∙ ap (λ (m : ℕ). past (past m (c .text)) (h .1)) (h .3)
+
+    cut : Part Name
+    cut = record { label = c .label; start = c .start; text = take (n - c .start) (c .text) }
+
+    begun : opens? (c .label) ≡ true → c .start < n
+    begun f = omega (arith, e, k, past-length (past (c .start) (c .text)) (h .1), past-length (c .start) (c .text), o .0 f)
+
+    go : (x y : Bool) → ltb (c .start) n ≡ x → opens? (c .label) ≡ y → opened (parts-before n ps) ≡ opened ps
+        → opened (cond x (cut ∷ parts-before n ps) (parts-before n ps)) ≡ cond y (suc (opened ps)) (opened ps)
+    go true true f g r = rw g (ap suc r)
+    go true false f g r = rw g r
+    go false true f g r = absurd (omega (arith, ltb-false (c .start) n f, begun g))
+    go false false f g r = r
+
+-- ## Read
+
+module _ (n : ℕ) (s : List ℕ) (ps : List (Part Name)) (p : Parses byte-ranges 0 s ps) where
+  abbrev whole : Standing 0 s [] ps
+  whole = standing s ps p
+
+  steady : Steady byte-ranges
+  steady = deterministic-steady byte-ranges tt one-way
+
+  -- no limit is passed
+  module _ (unpassed : (k : ℕ) (l : Limit) → k ≤ length s → Passes (rules n s) s l k → ⊥) where
+    pub all-forward : Each Forward (elements capped ps)
+    all-forward =
+        fit-forward [] ps (whole .turns) (fits-of forward (plain-rules n) tt steady s ps p (whole .laid) (λ k h v. unpassed k unfit h v))
+
+    pub all-few : length (elements capped ps) ≤ element-limit
+    all-few = go (length s) refl (ltb element-limit (opened ps)) refl
+      where
+        ended-well : (k : ℕ) → suc k ≤ length s → (x : Bool)
+            → (ended forward s k (parts-before (suc k) ps) && ends-backward (parts-before (suc k) ps)) ≡ x → x ≡ false
+        ended-well k h true f =
+            absurd (unpassed (suc k) unfit h (passes-with forward (plain-rules n) tt steady s ps p (whole .laid) unfit k h (rw f)))
+        ended-well k h false f = refl
+
+        go : (m : ℕ) → m ≡ length s → (x : Bool) → ltb element-limit (opened ps) ≡ x → length (elements capped ps) ≤ element-limit
+        go m e false f = omega (arith, opened-elements capped ps (whole .turns), ltb-false element-limit (opened ps) f)
+        go zero e true f =
+            let all = opened-all 0 0 s [] ps (whole .laid) (whole .opening) (omega (arith, past-length 0 s, e)) in
+            absurd (omega (arith, all, opened-none ps, ltb-true element-limit (opened ps) f))
+        go (suc k) e true f =
+            let all = opened-all (suc k) 0 s [] ps (whole .laid) (whole .opening) (omega (arith, past-length 0 s, e)) in
+            let well = ended-well k (omega (arith, e)) (ended forward s k (parts-before (suc k) ps) && ends-backward (parts-before (suc k) ps)) refl in
+            absurd (unpassed (suc k) crowded (omega (arith, e))
+            (passes-with forward (plain-rules n) tt steady s ps p (whole .laid) crowded k (omega (arith, e)) (rw (well, all, f))))
+
+  -- few elements, all of them forward
+  module _ (few : length (elements capped ps) ≤ element-limit) (all : Each Forward (elements capped ps)) where
+    pub none-passed : (k : ℕ) (l : Limit) → k ≤ length s → Passes (rules n s) s l k → ⊥
+    none-passed zero l h v = v
+    none-passed (suc k) l h v =
+        go (ended forward s k (parts-before (suc k) ps) && ends-backward (parts-before (suc k) ps)) refl
+        (passed-with forward (plain-rules n) tt steady s ps p (whole .laid) l k h v)
+      where
+        here : List (Part Name)
+        here = parts-before (suc k) ps
+
+        other : (m : ℕ) (rs : List (Part Name)) → limit m rs ≡ some unfit → ⊥
+        other m rs e = no (ltb element-limit (opened rs)) e
+          where
+            no : (x : Bool) → cond x (some crowded) none ≡ some unfit → ⊥
+            no true f = let z : _≡_ {A = ℕ} 0 1 = cc in omega arith
+            no false f = let z : _≡_ {A = ℕ} 0 1 = cc in omega arith
+
+        never : Passes (rules n s) s unfit (suc k) → ⊥
+        never = never-unfit forward (plain-rules n) tt steady s ps p (whole .laid) other (forward-fit ps (whole .turns) all) (suc k) h
+
+        few-here : ltb element-limit (opened (parts-before (suc k) ps)) ≡ false
+        few-here =
+            le-ltb element-limit (opened (parts-before (suc k) ps)) (omega (arith, opened-some (suc k) ps, opened-elements capped ps (whole .turns), few))
+
+        go : (x : Bool) → (ended forward s k (parts-before (suc k) ps) && ends-backward (parts-before (suc k) ps)) ≡ x
+            → cond x (some unfit) (limit k (parts-before (suc k) ps)) ≡ some l → ⊥
+        go true f e = never (passes-with forward (plain-rules n) tt steady s ps p (whole .laid) unfit k h (rw f))
+        go false f e = let z : _≡_ {A = ℕ} 0 1 = ap length-of (sym (rw few-here at e)) in omega arith
+          where
+            length-of : Option Limit → ℕ
+            length-of none = 1
+            length-of (some x) = 0

@@ -147,7 +147,7 @@ module _ {n : ℕ} {s : List ℕ} {t : List Range} {count seen i : ℕ} (w : Fil
           go [] l few e f = absurd (z l)
           go (r ∷ rs) l few e f = (
             ap₂ (λ (m : ℕ) (u : List Range). value (satisfiable m u)) l
-            (ap₂ take l f ∙ padded-take element-limit (r ∷ rs) (omega (arith, w .found .before .few))) ∙ sym e,
+                (ap₂ take l f ∙ padded-take element-limit (r ∷ rs) (omega (arith, w .found .before .few))) ∙ sym e,
             f ∙ sym (ap table-of e),
           )
 

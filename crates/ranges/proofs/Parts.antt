@@ -18,7 +18,7 @@ use Rattle.octets.specs.Classes.{DIGIT, BLANK}
 use Rattle.octets.proofs.Bytes.{told-apart}
 use Rattle.ranges.specs.Grammar.{Name, first, last, sign, suffix, MINUS, COMMA, blanks, element, others, unit, byte-ranges}
 use Rattle.ranges.specs.Grammar.{opens?, forward}
-use Rattle.ranges.specs.Parts.{ElementParts, InTurn}
+use Rattle.ranges.specs.Parts.{ElementParts, InTurn, NoDigit}
 use Rattle.ranges.proofs.Scan.{minus-no-digit, others-apart}
 
 -- ## Texts without parts
@@ -34,7 +34,7 @@ behind-word : (w : List ℕ) (b : T (bytes? w)) (g : Grammar Name) (i : ℕ) (s 
 behind-word [] b g i s ps p = ([], s, refl, p)
 behind-word (a ∷ w) b g i s ps p =
     let x = behind (byte (fold a (T-left (ltb a 256) (bytes? w) b))) (spell w (T-right (ltb a 256) (bytes? w) b) g)
-        (plain-byte (fold a (T-left (ltb a 256) (bytes? w) b))) i s ps p in
+    (plain-byte (fold a (T-left (ltb a 256) (bytes? w) b))) i s ps p in
     let y = behind-word w (T-right (ltb a 256) (bytes? w) b) g (past i (x .0)) (x .1) ps (x .3) in (
       x .0 ++ y .0,
       y .1,
@@ -79,17 +79,12 @@ number-digits i t ps p = (subst Digits (sym whole) all, omega (arith, ap length 
     all : Digits (p .6 .0 ∷ p .1)
     all = more-digits (p .6 .0) (p .1) (T-true (digit? (p .6 .0)) (p .6 .2)) (many-digits (past i (p .0)) (p .1) (p .3) (p .7))
 
--- what follows does not begin with a digit
-abbrev Undigit : List ℕ → Type 0
-Undigit [] = Unit
-Undigit (b ∷ u) = digit? b ≡ false
-
 -- a number, and what follows it
-number-whole : (l : Name) (i : ℕ) (t u : List ℕ) → ((b : ℕ) → forward .goes-on l b ≡ digit? b) → Digits t → Undigit u
+number-whole : (l : Name) (i : ℕ) (t u : List ℕ) → ((b : ℕ) → forward .goes-on l b ≡ digit? b) → Digits t → NoDigit u
     → Whole forward (record { label = l; start = i; text = t }) u
 number-whole l i t u goes d n = record { inner = λ m a b. goes (getD t m 0) ∙ d m b; outer = go u n }
   where
-    go : (v : List ℕ) → Undigit v → stops forward (record { label = l; start = i; text = t }) v ≡ true
+    go : (v : List ℕ) → NoDigit v → stops forward (record { label = l; start = i; text = t }) v ≡ true
     go [] n = refl
     go (b ∷ v) n = rw (goes b, n)
 
@@ -100,10 +95,10 @@ abbrev Pair : ℕ → List ℕ → List ℕ → List (Part Name) → Type 0
 Pair i t w ps =
     (a : Part Name) × (b : Part Name) × (ps ≡ a ∷ b ∷ []) × ElementParts a b × (0 < length (a .text)) × Laid forward i t w (a ∷ b ∷ [])
 
-minus-first : (x : ℕ) (t u : List ℕ) → t ≡ x ∷ [] → T (MINUS .has x) → (w : List ℕ) → Undigit ((t ++ u) ++ w)
-minus-first x t u e h w = subst (λ (v : List ℕ). Undigit ((v ++ u) ++ w)) (sym e) (ap digit? (eqb-true x 45 (T-true (eqb x 45) h)) ∙ minus-no-digit)
+minus-first : (x : ℕ) (t u : List ℕ) → t ≡ x ∷ [] → T (MINUS .has x) → (w : List ℕ) → NoDigit ((t ++ u) ++ w)
+minus-first x t u e h w = subst (λ (v : List ℕ). NoDigit ((v ++ u) ++ w)) (sym e) (ap digit? (eqb-true x 45 (T-true (eqb x 45) h)) ∙ minus-no-digit)
 
-positions-pair : (i : ℕ) (t w : List ℕ) (ps : List (Part Name)) → Undigit w
+positions-pair : (i : ℕ) (t w : List ℕ) (ps : List (Part Name)) → NoDigit w
     → Parses (part first (plus (byte DIGIT)) ⨾ byte MINUS ⨾ part last (star (byte DIGIT))) i t ps → Pair i t w ps
 positions-pair i t w ps n p =
     let f = plain-part first (plus (byte DIGIT)) plain-number i (p .0) (p .2) (p .6) in
@@ -123,7 +118,7 @@ positions-pair i t w ps n p =
         p .4,
         refl,
         number-whole first i (p .0) (p .1 ++ w) (λ b. refl) (d .0)
-        (subst (λ (v : List ℕ). Undigit (v ++ w)) (sym (m .4)) (minus-first (m .6 .0) (m .0) (m .1) (m .6 .1) (m .6 .2) w)),
+            (subst (λ (v : List ℕ). NoDigit (v ++ w)) (sym (m .4)) (minus-first (m .6 .0) (m .0) (m .1) (m .6 .1) (m .6 .2) w)),
         (
           m .0,
           [],
@@ -135,7 +130,7 @@ positions-pair i t w ps n p =
       ),
     )
 
-suffix-pair : (i : ℕ) (t w : List ℕ) (ps : List (Part Name)) → Undigit w
+suffix-pair : (i : ℕ) (t w : List ℕ) (ps : List (Part Name)) → NoDigit w
     → Parses (part sign (byte MINUS) ⨾ part suffix (plus (byte DIGIT))) i t ps → Pair i t w ps
 suffix-pair i t w ps n p =
     let f = plain-part sign (byte MINUS) (plain-byte MINUS) i (p .0) (p .2) (p .6) in
@@ -168,7 +163,7 @@ suffix-pair i t w ps n p =
     sign-stops [] = refl
     sign-stops (b ∷ u) = refl
 
-element-pair : (i : ℕ) (t w : List ℕ) (ps : List (Part Name)) → Undigit w → Parses element i t ps → Pair i t w ps
+element-pair : (i : ℕ) (t w : List ℕ) (ps : List (Part Name)) → NoDigit w → Parses element i t ps → Pair i t w ps
 element-pair i t w ps n (inl p) = positions-pair i t w ps n p
 element-pair i t w ps n (inr p) = suffix-pair i t w ps n p
 
@@ -188,9 +183,9 @@ joins-element : Grammar Name
 joins-element = blanks ⨾ byte COMMA ⨾ blanks ⨾ element
 
 -- what joins the next element is no digit
-others-undigit : (i : ℕ) (u w : List ℕ) (rs : List (Part Name)) → Parses others i u rs → Undigit w → Undigit (u ++ w)
-others-undigit i [] w rs p n = n
-others-undigit i (b ∷ u) w rs p n = go (digit? b) refl
+others-no-digit : (i : ℕ) (u w : List ℕ) (rs : List (Part Name)) → Parses others i u rs → NoDigit w → NoDigit (u ++ w)
+others-no-digit i [] w rs p n = n
+others-no-digit i (b ∷ u) w rs p n = go (digit? b) refl
   where
     go : (x : Bool) → digit? b ≡ x → x ≡ false
     go true d = absurd (subst (λ (g : Grammar Name). Parses g (suc i) u rs) (others-apart i b d) (deriv-of others i b u rs p))
@@ -209,11 +204,11 @@ pair-standing i t u w ps qs x s =
     closes (inl e) o = true≢false (sym o ∙ ap opens? (e .1))
     closes (inr e) o = true≢false (sym o ∙ ap opens? (e .1))
 
-others-standing : (i : ℕ) (u w : List ℕ) (rs : List (Part Name)) → Undigit w → Many (Parses joins-element) i u rs → Standing i u w rs
+others-standing : (i : ℕ) (u w : List ℕ) (rs : List (Part Name)) → NoDigit w → Many (Parses joins-element) i u rs → Standing i u w rs
 unfolding joins-element
 others-standing i u w rs n none = record { turns = tt; opening = tt; laid = tt }
 others-standing i s w rs n (more b t u ps qs p m) =
-    let after = others-undigit (past (suc i) t) u w qs m n in
+    let after = others-no-digit (past (suc i) t) u w qs m n in
     let x = behind blanks (byte COMMA ⨾ blanks ⨾ element) plain-blanks i (b ∷ t) ps p in
     let y = behind (byte COMMA) (blanks ⨾ element) (plain-byte COMMA) (past i (x .0)) (x .1) ps (x .3) in
     let z = behind blanks element plain-blanks (past (past i (x .0)) (y .0)) (y .1) ps (y .3) in
@@ -232,7 +227,7 @@ standing s ps p =
     let x = behind-word unit tt (element ⨾ others) 0 s ps p in
     let q = x .3 in
     let i = past 0 (x .0) in
-    let after = others-undigit (past i (q .0)) (q .1) [] (q .3) (q .7) tt in
+    let after = others-no-digit (past i (q .0)) (q .1) [] (q .3) (q .7) tt in
     let e = element-pair i (q .0) (q .1 ++ []) (q .2) after (q .6) in
     let w = pair-standing i (q .0) (q .1) [] (q .2) (q .3) e (others-standing (past i (q .0)) (q .1) [] (q .3) tt (q .7)) in
     subst (λ (rs : List (Part Name)). Standing 0 s [] rs) (sym (q .5))

@@ -284,8 +284,8 @@ module _ (n : ℕ) (s : List ℕ) {xs : List Element} {i : ℕ} (x : ElementAt n
               let z : t + 1 ≡ f = omega (arith, l .some) in
               let u : suc t ≡ f = omega (arith, l .some) in
               let there = ended-there forward s t (cs ++ first-part ∷ []) (upto (t + 1))
-                  (upto-ends (t + 1) (omega (arith, l .some)) (omega (arith, l .some, whole-run .within)) ∙ add-one t)
-                  (λ h. subst (λ (m : ℕ). m < length s → digit? (getD s m 0) ≡ false) (sym u) (whole-run .stops) h) in
+              (upto-ends (t + 1) (omega (arith, l .some)) (omega (arith, l .some, whole-run .within)) ∙ add-one t)
+              (λ h. subst (λ (m : ℕ). m < length s → digit? (getD s m 0) ≡ false) (sym u) (whole-run .stops) h) in
               within-limit n s t ((cs ++ first-part ∷ []) ++ upto (t + 1) ∷ []) y
               (compared n s t cs first-part (upto (t + 1)) there
               ∙ ap (λ (m : ℕ). ltb (capped (slice s (e + 1) m)) (capped (slice s i e))) z ∙ rw (l .is, d .is) g)
