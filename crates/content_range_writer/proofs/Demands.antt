@@ -9,9 +9,9 @@ use lib.ListN.{length, take, drop}
 use Rattle.grammar.specs.Refusals.{OUTPUT_TOO_SHORT, OUT_OF_RANGE}
 use Rattle.grammar.specs.Reading.{Verdict, value, refused}
 use Rattle.octets.specs.Writing.{output}
+use Rattle.octets.proofs.Answers.{tells-nine, tells-eight, tells-length, is-eight, rest-kept}
 use Rattle.octets.proofs.Writing.{stands-in-front}
 use Rattle.content_range_writer.specs.Writing.{range-text, InRange, out-of-range, range-writing, range-output}
-use Rattle.content_range_writer.proofs.Answers.{tells-nine, tells-eight, tells-length, is-eight, rest-kept}
 use Rattle.content_range_writer.proofs.Writer.{at-most-65, within, in-range, outside}
 
 module _ (first last entity-length : ℕ) where

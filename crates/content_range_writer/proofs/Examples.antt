@@ -7,10 +7,10 @@ use lib.ListN.{length}
 use Rattle.grammar.specs.Refusals.{OUTPUT_TOO_SHORT, OUT_OF_RANGE}
 use Rattle.grammar.specs.Reading.{value, refused}
 use Rattle.grammar.specs.Text.{bytes}
+use Rattle.octets.specs.Numbers.{length-limit}
 use Rattle.numerals.specs.Numeral.{glyph, digits, width-in, width, numeral}
-use Rattle.numerals.proofs.Digits.{width-some, width-large}
-use Rattle.content_range_writer.specs.Writing.{range-text, LENGTH_LIMIT, range-writing, range-output}
-use Rattle.content_range_writer.proofs.Writer.{width-below}
+use Rattle.numerals.proofs.Digits.{width-some, width-large, width-below}
+use Rattle.content_range_writer.specs.Writing.{range-text, range-writing, range-output}
 
 -- "as `bytes 0-499/1234`": 16 bytes
 document : (range-text 0 499 1234 ≡ bytes "bytes 0-499/1234") × (length (range-text 0 499 1234) ≡ 16)
@@ -68,7 +68,7 @@ unfolding digits glyph
 largest = in-nineteen 9223372036854775807 (omega arith) (omega arith)
 
 -- "the length at most 2^63-1"; the longest text has 65 bytes
-power : LENGTH_LIMIT ≡ 2 ^ 63 - 1
+power : length-limit ≡ 2 ^ 63 - 1
 power = refl
 
 limit :

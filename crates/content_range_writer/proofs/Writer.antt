@@ -1,6 +1,5 @@
 -- How long the text is, what the writer's parts leave in the lent bytes, and what the test of the numbers says.
-use Prim.Native.Nat.{ℕ, zero, suc, _+_, _/_, _^_, _≤_, _<_}
-use native.Mathlib.Nat.{pow-suc}
+use Prim.Native.Nat.{ℕ, _+_, _≤_, _<_}
 use native.Mathlib.Omega.{arith}
 use borrow.Author.Tests.{lt-ltb, ltb-true, ltb-false, le-leb, leb-true, not-false}
 use mathlib.Core.Path.{_≡_, refl, sym, ap, _∙_}
@@ -9,33 +8,20 @@ use mathlib.Core.List.{List, [], _++_}
 use lib.Dec.{ltb, leb}
 use lib.ListN.{length, drop, length-append}
 use Rattle.grammar.specs.Text.{bytes}
-use Rattle.numerals.specs.Numeral.{width, numeral}
-use Rattle.numerals.proofs.Digits.{split, width-small, width-large, numeral-length}
+use Rattle.octets.specs.Numbers.{length-limit}
+use Rattle.numerals.specs.Numeral.{numeral}
+use Rattle.numerals.proofs.Digits.{split, width-below, numeral-length}
 use Rattle.text.specs.Placing.{placed, behind}
-use Rattle.text.proofs.Placing.{placed-fits, Put, put-none, put-then}
-use Rattle.content_range_writer.specs.Writing.{range-text, LENGTH_LIMIT, InRange, out-of-range}
+use Rattle.text.proofs.Placing.{placed-front, Put, put-none, put-then}
+use Rattle.content_range_writer.specs.Writing.{range-text, InRange, out-of-range}
 
 -- ## Its digits
--- a number below 10 ^ k has at most k digits
-pub width-below : (j n : ℕ) → n < 10 ^ suc j → width 10 n ≤ suc j
-width-below zero n h = omega (arith, width-small 10 n (omega arith))
-width-below (suc j) n h = split (ltb n 10)
-    (λ e. omega (arith, width-small 10 n (ltb-true n 10 e)))
-    (λ e. let less : n / 10 < 10 ^ suc j = omega (arith, pow-suc 10 (suc j)) in
-    omega (arith, width-large 10 n (omega arith) (ltb-false n 10 e), width-below j (n / 10) less))
-
-nineteen-digits : (n : ℕ) → n ≤ LENGTH_LIMIT → length (numeral 10 n) ≤ 19
+nineteen-digits : (n : ℕ) → n ≤ length-limit → length (numeral 10 n) ≤ 19
 nineteen-digits n h = omega (arith, numeral-length 10 n, width-below 18 n (omega arith))
 
 -- ## The parts, one behind the other
 front-fits : (xs ys old : List ℕ) → length (xs ++ ys) ≤ length old → length xs ≤ length old
 front-fits xs ys old h = omega (arith, length-append xs ys)
-
-placed-front : (old xs : List ℕ) → length xs ≤ length old → placed old 0 xs ≡ xs ++ drop (length xs) old
-placed-front old xs h = placed-fits old 0 xs (omega arith) ∙ ap (λ (n : ℕ). xs ++ drop n old) nought
-  where
-    nought : 0 + length xs ≡ length xs
-    nought = omega arith
 
 front-then : (old xs new : List ℕ) (p : ℕ) (ys new′ : List ℕ) (p′ : ℕ) → Put old 0 xs new p → length (xs ++ ys) ≤ length old
     → p′ ≡ behind new p ys → new′ ≡ placed new p ys → Put old 0 (xs ++ ys) new′ p′
@@ -129,12 +115,12 @@ all-true false y z e = absurd (true≢false (sym e))
 
 module _ (first last entity-length : ℕ) where
   pub within : InRange first last entity-length → out-of-range first last entity-length ≡ false
-  within r = rw (le-leb first last (r .0), lt-ltb last entity-length (r .1), le-leb entity-length LENGTH_LIMIT (r .2))
+  within r = rw (le-leb first last (r .0), lt-ltb last entity-length (r .1), le-leb entity-length length-limit (r .2))
 
   pub in-range : out-of-range first last entity-length ≡ false → InRange first last entity-length
   in-range e =
-      let t = all-true (leb first last) (ltb last entity-length) (leb entity-length LENGTH_LIMIT) (not-false _ e) in
-      (leb-true first last (t .0), ltb-true last entity-length (t .1), leb-true entity-length LENGTH_LIMIT (t .2))
+      let t = all-true (leb first last) (ltb last entity-length) (leb entity-length length-limit) (not-false _ e) in
+      (leb-true first last (t .0), ltb-true last entity-length (t .1), leb-true entity-length length-limit (t .2))
 
   pub outside : (InRange first last entity-length → ⊥) → out-of-range first last entity-length ≡ true
   outside never = split (out-of-range first last entity-length) (λ e. e) (λ e. absurd (never (in-range e)))

@@ -9,6 +9,7 @@ use lib.ListN.{length}
 use Rattle.grammar.specs.Reading.{Verdict}
 use Rattle.grammar.specs.Text.{bytes}
 use Rattle.numerals.specs.Numeral.{numeral}
+use Rattle.octets.specs.Numbers.{length-limit}
 use Rattle.octets.specs.Writing.{output, writing}
 
 -- "as `bytes 0-499/1234`"
@@ -16,17 +17,13 @@ abbrev pub range-text : (first last entity-length : ℕ) → List ℕ
 range-text first last entity-length =
     bytes "bytes " ++ numeral 10 first ++ bytes "-" ++ numeral 10 last ++ bytes "/" ++ numeral 10 entity-length
 
--- the largest length of an entity, 2^63-1
-abbrev pub LENGTH_LIMIT : ℕ
-LENGTH_LIMIT = 9223372036854775807
-
 -- "first is at most last, last is below the length and the length at most 2^63-1"
 abbrev pub InRange : (first last entity-length : ℕ) → Type 0
-InRange first last entity-length = (first ≤ last) × (last < entity-length) × (entity-length ≤ LENGTH_LIMIT)
+InRange first last entity-length = (first ≤ last) × (last < entity-length) × (entity-length ≤ length-limit)
 
 -- the test that this does not hold: `nine-exactly` ties the two
 abbrev pub out-of-range : (first last entity-length : ℕ) → Bool
-out-of-range first last entity-length = not (leb first last && ltb last entity-length && leb entity-length LENGTH_LIMIT)
+out-of-range first last entity-length = not (leb first last && ltb last entity-length && leb entity-length length-limit)
 
 -- the answer in a room, and the lent output afterwards
 abbrev pub range-writing : (first last entity-length : ℕ) → ℕ → Verdict ℕ

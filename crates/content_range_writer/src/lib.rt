@@ -5,12 +5,10 @@ ghost use Prim.Native.Nat.{_≤_};
 ghost use lib.ListN.{length, drop};
 ghost use Rattle.octets.specs.Writing.{written};
 ghost use Rattle.content_range_writer.specs.Writing.{InRange, range-text, range-writing, range-output};
+use octets::LENGTH_LIMIT;
 use octets::OUT_OF_RANGE;
 use octets::OUTPUT_TOO_SHORT;
 use octets::Written;
-
-// The largest length of an entity, 2^63-1.
-const LENGTH_LIMIT: u64 = 9223372036854775807;
 
 // The bytes of the unit and its blank.
 const UNIT_LEN: usize = 6;

@@ -15,7 +15,7 @@ use Rattle.octets.specs.declared.Written.the-variants.{Length, Refused}
 use Rattle.octets.specs.Writing.{written}
 use Rattle.octets.proofs.Writing as W
 use Rattle.text.specs.Placing.{placed}
-use Rattle.text.proofs.Placing.{placed-fits}
+use Rattle.text.proofs.Placing.{placed-front}
 use Rattle.calendar.specs.declared.Fields.{Fields}
 use Rattle.calendar.specs.declared.Told.{Told}
 use Rattle.calendar.specs.declared.Told.the-variants.{On, Outside}
@@ -114,9 +114,8 @@ module _ (s : ℤ) where
     writes f w t h text new e p =
         let q = told-is f w t in
         let x : text ≡ instant-text s = e ∙ ap (λ (k : ℕ). date-text k f) (q .2) ∙ ap (date-text (weekday-at s)) (q .1) in
-        let z : 0 + length (instant-text s) ≡ length (instant-text s) = omega arith in
         W.writes-all (not (in-range? s)) (instant-text s) old 29 new (sym long) (ap not (q .0)) (omega (arith, long))
-        (p ∙ ap (placed old 0) x ∙ placed-fits old 0 (instant-text s) (omega (arith, long)) ∙ ap (λ (n : ℕ). instant-text s ++ drop n old) z)
+        (p ∙ ap (placed old 0) x ∙ placed-front old (instant-text s) (omega (arith, long)))
 
     -- in room enough, the answer is 29, and the front of the output is the text
     pub stands : in-range? s ≡ true → 29 ≤ length old → (date-writing s (length old) ≡ value 29) × (take 29 (date-output s old) ≡ instant-text s)

@@ -71,6 +71,14 @@ width-bound (suc j) base n b h = split (ltb n base)
     let less = div-lt-iff-lt-mul {k = base} {x = n} {y = 2 ^ suc j} (omega arith) .1 lt in
     omega (arith, width-large base n b le, width-bound j base (n / base) b less))
 
+-- a number below 10 ^ k has at most k digits
+pub width-below : (j n : ℕ) → n < 10 ^ suc j → width 10 n ≤ suc j
+width-below zero n h = omega (arith, width-small 10 n (omega arith))
+width-below (suc j) n h = split (ltb n 10)
+    (λ e. omega (arith, width-small 10 n (ltb-true n 10 e)))
+    (λ e. let less : n / 10 < 10 ^ suc j = omega (arith, pow-suc 10 (suc j)) in
+    omega (arith, width-large 10 n (omega arith) (ltb-false n 10 e), width-below j (n / 10) less))
+
 -- ## The digits
 pub digits-length : (base k n : ℕ) → length (digits base k n) ≡ k
 unfolding digits

@@ -4,4 +4,5 @@ pub mod Tables
 pub mod SameBy
 pub mod SameBytes
 pub mod Writing
+pub mod Answers
 pub mod Alike

@@ -1,4 +1,4 @@
--- Decimal numbers: what digits mean, when a number is above its limit, and what stands for it where it is capped.
+-- Decimal numbers: what digits mean, when a number is above its limit, and what stands for it where it is capped. The largest length.
 use Prim.Native.Nat.{ℕ, _+_, _-_, _*_}
 use Prim.Native.Char.{code}
 use mathlib.Core.Bool.{Bool, true, false, cond, _&&_, _||_}
@@ -42,3 +42,7 @@ pub record Capped : Type 0 where
 -- what the number n is under a limit and a cap
 abbrev pub capped-number : (limit cap n : ℕ) → Capped
 capped-number limit cap n = cond (ltb limit n) (record { value = cap; capped = true }) (record { value = n; capped = false })
+
+-- "2^63-1": the largest length of an entity, and the cap of the numbers in byte ranges (document 02, request (iv))
+abbrev pub length-limit : ℕ
+length-limit = 9223372036854775807

@@ -11,6 +11,9 @@ ghost use Rattle.octets.specs.Same.{same?};
 // The longest header value.
 pub const VALUE_LIMIT: usize = 8192;
 
+// The largest length of an entity, 2^63 - 1; in byte ranges it stands for larger numbers.
+pub const LENGTH_LIMIT: u64 = 9223372036854775807;
+
 // Document 01's refusal numbers. Malformed; place: the length of the longest beginning that some continuation completes.
 pub const MALFORMED: u8 = 1;
 

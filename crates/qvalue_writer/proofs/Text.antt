@@ -8,7 +8,7 @@ use mathlib.Core.List.{List, [], _∷_, _++_}
 use lib.Dec.{eqb}
 use lib.ListN.{length, take, drop}
 use Rattle.text.specs.Placing.{placed}
-use Rattle.text.proofs.Placing.{placed-fits}
+use Rattle.text.proofs.Placing.{placed-front}
 use Rattle.qvalue_writer.specs.Writing.{full-text, text-length, qvalue-text}
 
 pub length-is : (q : ℕ) → length (qvalue-text q) ≡ text-length q
@@ -58,11 +58,7 @@ pub front-put : (q n : ℕ) (old new : List ℕ) (a b c d : ℕ) → n ≡ lengt
     → a ≡ 48 + q / 1000 % 10 → b ≡ 48 + q / 100 % 10 → c ≡ 48 + q / 10 % 10 → d ≡ 48 + q % 10
     → new ≡ placed old 0 (take n (a ∷ 46 ∷ b ∷ c ∷ d ∷ [])) → new ≡ qvalue-text q ++ drop (length (qvalue-text q)) old
 front-put q n old new a b c d e h x y z w p =
-    p ∙ ap (placed old 0) (rw (x, y, z, w) (front-is q n e)) ∙ placed-fits old 0 (qvalue-text q) (omega arith)
-    ∙ ap (λ (k : ℕ). qvalue-text q ++ drop k old) nought
-  where
-    nought : 0 + length (qvalue-text q) ≡ length (qvalue-text q)
-    nought = omega arith
+    p ∙ ap (placed old 0) (rw (x, y, z, w) (front-is q n e)) ∙ placed-front old (qvalue-text q) (omega arith)
 
 module _ (q : ℕ) where
   pub no-digit : q % 1000 ≡ 0 → length (qvalue-text q) ≡ 1

@@ -16,10 +16,10 @@ use Rattle.grammar.specs.Arguments.{Asked, in-range}
 use Rattle.grammar.specs.helpers.Judge.{header}
 use Rattle.grammar.proofs.Demands as Kinds
 use Rattle.grammar.proofs.Demands.{judged-exactly, asked-exactly, one-parse, unbroken-unpassed}
-use Rattle.octets.specs.Numbers.{number}
+use Rattle.octets.specs.Numbers.{number, length-limit}
 use Rattle.ranges.specs.declared.Range.{Range}
 use Rattle.ranges.specs.Meaning.{Selects, Forward, Covers, Some, Each, InEntity, resolved, Ranges, answer, ranges-in}
-use Rattle.ranges.specs.Grammar.{Name, byte-ranges, largest, capped, sign?, elements, plain-rules, forward, rules}
+use Rattle.ranges.specs.Grammar.{Name, byte-ranges, capped, sign?, elements, plain-rules, forward, rules}
 use Rattle.ranges.specs.Parts.{InTurn, NoDigit}
 use Rattle.ranges.specs.Reading.{reading}
 use Rattle.ranges.proofs.Exact.{one-way, all-forward, all-few, none-passed}
@@ -30,14 +30,14 @@ use Rattle.ranges.proofs.Parts.{standing}
 -- then 13, then the lowest place among 1 and 10), and nothing else. A last below its first is one of the rules for s (`forward`).
 pub answers : (n : ℕ) (s : List ℕ) (v : Verdict Ranges) → (reading n s ≡ v) ↔ Asked (n ≤ 9223372036854775807) (Answers (rules n s) s) v
 answers n s =
-    asked-exactly (n ≤ largest) (Answers (rules n s) s) (leb n largest) (leb-true n largest)
-    (λ e h. absurd (omega (arith, leb-false n largest e))) (header (rules n s) s) (judged-exactly (plain-rules n) tt tt one-way forward s)
+    asked-exactly (n ≤ length-limit) (Answers (rules n s) s) (leb n length-limit) (leb-true n length-limit)
+    (λ e h. absurd (omega (arith, leb-false n length-limit e))) (header (rules n s) s) (judged-exactly (plain-rules n) tt tt one-way forward s)
 
 -- "A last below its first, once its digits end, is malformed at its last digit, whatever follows": a value p that is malformed at its last
 -- byte stays so, whatever u follows that is not a digit more.
 pub whatever-follows : (n : ℕ) (p u : List ℕ) (k : ℕ) → suc k ≡ length p → reading n p ≡ refused MALFORMED k → NoDigit u
     → length (p ++ u) ≤ value-limit → reading n (p ++ u) ≡ refused MALFORMED k
-whatever-follows n p u k e q off short = go (leb n largest) q
+whatever-follows n p u k e q off short = go (leb n length-limit) q
   where
     stopped : (t : List ℕ) → NoDigit t → (c : Part Name) → stops forward c t ≡ true
     stopped [] o c = refl
@@ -57,15 +57,15 @@ pub parts-in-turn : (s : List ℕ) (ps : List (Part Name)) → Parses byte-range
 parts-in-turn s ps p = standing s ps p .turns
 
 module _ (n : ℕ) (s : List ℕ) (v : Ranges) (e : reading n s ≡ value v) (ps : List (Part Name)) (p : Parses byte-ranges 0 s ps) where
-  read-is : (n ≤ largest) × (v ≡ answer (resolved n (elements capped ps)))
+  read-is : (n ≤ length-limit) × (v ≡ answer (resolved n (elements capped ps)))
   read-is = asked v (answers n s (value v) .0 e)
     where
       parts : (w : Ranges) → Answers (rules n s) s (value w) → w ≡ answer (resolved n (elements capped ps))
       parts w (reads {ps = qs} l q sound f) =
           ap (λ (rs : List (Part Name)). answer (resolved n (elements capped rs))) (one-parse (plain-rules n) tt tt one-way s qs ps q p)
 
-      asked : (w : Ranges) → Asked (n ≤ largest) (Answers (rules n s) s) (value w)
-          → (n ≤ largest) × (w ≡ answer (resolved n (elements capped ps)))
+      asked : (w : Ranges) → Asked (n ≤ length-limit) (Answers (rules n s) s) (value w)
+          → (n ≤ length-limit) × (w ≡ answer (resolved n (elements capped ps)))
       asked w (in-range i a) = (i, parts w a)
 
   -- The table is the resolved elements in order: "The order sent is kept."
@@ -97,7 +97,7 @@ module _ (n : ℕ) (s : List ℕ) (small : n ≤ 9223372036854775807) (short : l
   sound-so v (reads l q sound f) = sound
 
   header-is : reading n s ≡ header (rules n s) s
-  header-is = rw (le-leb n largest small)
+  header-is = rw (le-leb n length-limit small)
 
   pub read-exactly : ((v : Ranges) × (reading n s ≡ value v)) ↔ ((length (elements capped ps) ≤ 16) × Each Forward (elements capped ps))
   read-exactly = (to, back)

@@ -11,11 +11,12 @@ use Rattle.grammar.specs.Grammar.{Grammar}
 use Rattle.grammar.specs.Reading.{value-limit, Verdict, value, refused}
 use Rattle.grammar.specs.helpers.Judge.{header}
 use Rattle.grammar.proofs.Loop.{header-long}
+use Rattle.octets.specs.Numbers.{length-limit}
 use Rattle.ranges.specs.declared.Element.{Element}
 use Rattle.ranges.specs.declared.Range.{Range}
 use Rattle.ranges.specs.declared.Outcome.the-variants.{Satisfiable, Unsatisfiable}
 use Rattle.ranges.specs.Meaning.{begin, end, kept, resolved, Ranges, satisfiable, unsatisfiable, answer}
-use Rattle.ranges.specs.Grammar.{Name, others, element-limit, largest, elements, capped, rules}
+use Rattle.ranges.specs.Grammar.{Name, others, element-limit, elements, capped, rules}
 use Rattle.ranges.specs.Reading.{reading, padded, filled, table-of, refused-reading, Answered}
 use Rattle.ranges.specs.helpers.Scan.{FoundBefore, Found, Read}
 use Rattle.ranges.proofs.Scan.{left-none, left-some, no-more, element-missing}
@@ -110,9 +111,9 @@ module _ {n : ℕ} {s : List ℕ} {t : List Range} {count seen i : ℕ} (w : Fil
 
   -- ## The end
 
-  module _ (small : n ≤ largest) where
+  module _ (small : n ≤ length-limit) where
     reading-is : reading n s ≡ header (rules n s) s
-    reading-is = rw (le-leb n largest small)
+    reading-is = rw (le-leb n length-limit small)
 
     pub none-read : seen ≡ 0 → length s ≤ i → reading n s ≡ refused 1 i
     none-read z h =
@@ -155,13 +156,13 @@ pub refused-answer : (n : ℕ) (s : List ℕ) {number place : ℕ} → reading n
 refused-answer n s e = (sym e, sym (ap table-of e))
 
 -- the argument; then the length of the value
-pub length-refused : (n : ℕ) (s : List ℕ) → largest < n → reading n s ≡ refused 9 0
-length-refused n s h = rw (lt-leb n largest h)
+pub length-refused : (n : ℕ) (s : List ℕ) → length-limit < n → reading n s ≡ refused 9 0
+length-refused n s h = rw (lt-leb n length-limit h)
 
-pub long-refused : (n : ℕ) (s : List ℕ) → n ≤ largest → value-limit < length s → reading n s ≡ refused 13 value-limit
-long-refused n s small h = rw (le-leb n largest small) (header-long (rules n s) s h)
+pub long-refused : (n : ℕ) (s : List ℕ) → n ≤ length-limit → value-limit < length s → reading n s ≡ refused 13 value-limit
+long-refused n s small h = rw (le-leb n length-limit small) (header-long (rules n s) s h)
 
 -- a step that stopped has the answer
-pub refused-found : (n : ℕ) (s : List ℕ) {number place : ℕ} → n ≤ largest → header (rules n s) s ≡ refused number place
+pub refused-found : (n : ℕ) (s : List ℕ) {number place : ℕ} → n ≤ length-limit → header (rules n s) s ≡ refused number place
     → Answered n s (refused-reading number place)
-refused-found n s small e = refused-answer n s (rw (le-leb n largest small) e)
+refused-found n s small e = refused-answer n s (rw (le-leb n length-limit small) e)

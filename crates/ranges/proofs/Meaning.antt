@@ -8,13 +8,13 @@ use mathlib.Core.Bool.{Bool, true, false, cond}
 use mathlib.Core.List.{List, [], _∷_, _++_}
 use lib.Dec.{ltb}
 use Rattle.grammar.specs.Grammar.{Part}
-use Rattle.octets.specs.Numbers.{number, Capped}
+use Rattle.octets.specs.Numbers.{number, Capped, length-limit}
 use Rattle.scans.proofs.Caps.{capped-within, capped-beyond}
 use Rattle.ranges.specs.declared.Element.{Element}
 use Rattle.ranges.specs.declared.Element.the-variants.{Closed, Open, Suffix}
 use Rattle.ranges.specs.declared.Range.{Range}
 use Rattle.ranges.specs.Meaning.{Selects, Covers, Some, Each, begin, end, kept, resolved, InEntity}
-use Rattle.ranges.specs.Grammar.{Name, largest, capped, sign?, positions, element-of, elements}
+use Rattle.ranges.specs.Grammar.{Name, capped, sign?, positions, element-of, elements}
 
 -- ## Lists
 
@@ -69,15 +69,15 @@ spans n p (Suffix m) = (λ z. (z .1, omega (arith, z .0)), λ z. (omega (arith, 
 -- ## Capped or not
 
 -- in an entity that is not too long no position and no suffix tells a number from its cap
-module _ (n p : ℕ) (small : n ≤ largest) (inside : p < n) (t : List ℕ) where
-  cases : (capped t ≡ number t) ⊎ ((capped t ≡ largest) × (largest < number t))
-  cases = go (ltb largest (number t)) refl
+module _ (n p : ℕ) (small : n ≤ length-limit) (inside : p < n) (t : List ℕ) where
+  cases : (capped t ≡ number t) ⊎ ((capped t ≡ length-limit) × (length-limit < number t))
+  cases = go (ltb length-limit (number t)) refl
     where
-      go : (x : Bool) → ltb largest (number t) ≡ x → (capped t ≡ number t) ⊎ ((capped t ≡ largest) × (largest < number t))
+      go : (x : Bool) → ltb length-limit (number t) ≡ x → (capped t ≡ number t) ⊎ ((capped t ≡ length-limit) × (length-limit < number t))
       go true f =
-          let h = ltb-true largest (number t) f in
-          inr (ap (λ (c : Capped). c .value) (capped-beyond largest largest (number t) h), h)
-      go false f = inl (ap (λ (c : Capped). c .value) (capped-within largest largest (number t) (ltb-false largest (number t) f)))
+          let h = ltb-true length-limit (number t) f in
+          inr (ap (λ (c : Capped). c .value) (capped-beyond length-limit length-limit (number t) h), h)
+      go false f = inl (ap (λ (c : Capped). c .value) (capped-within length-limit length-limit (number t) (ltb-false length-limit (number t) f)))
 
   first-alike : (capped t ≤ p) ↔ (number t ≤ p)
   first-alike = ⊎-elim (λ e. (λ h. omega arith, λ h. omega arith))
@@ -91,7 +91,7 @@ module _ (n p : ℕ) (small : n ≤ largest) (inside : p < n) (t : List ℕ) whe
   suffix-alike = ⊎-elim (λ e. (λ h. omega arith, λ h. omega arith))
       (λ e. (λ h. omega (arith, e .0, e .1), λ h. omega (arith, e .0, e .1))) cases
 
-module _ (n p : ℕ) (small : n ≤ largest) where
+module _ (n p : ℕ) (small : n ≤ length-limit) where
   positions-alike : (f l : List ℕ) → Selects n (positions capped f l) p ↔ Selects n (positions number f l) p
   positions-alike f [] = (
     λ z. (z .0, first-alike n p small (z .0) f .0 (z .1)),

@@ -13,7 +13,7 @@ use Rattle.grammar.specs.Reading.{Limit, crowded, Rules}
 use Rattle.grammar.specs.Endings.{Judgement, judging}
 use Rattle.octets.specs.Bytes.{digit?}
 use Rattle.octets.specs.Classes.{DIGIT, BLANK}
-use Rattle.octets.specs.Numbers.{number, capped-number}
+use Rattle.octets.specs.Numbers.{number, capped-number, length-limit}
 use Rattle.ranges.specs.declared.Element.{Element}
 use Rattle.ranges.specs.declared.Element.the-variants.{Closed, Open, Suffix}
 use Rattle.ranges.specs.Meaning.{resolved, Ranges, answer}
@@ -47,12 +47,9 @@ byte-ranges = spell unit tt (element ⨾ others)
 
 -- ## What the parts say
 
-abbrev pub largest : ℕ
-largest = 9223372036854775807
-
 -- "Numbers above 2^63-1 are capped to it before first and last are compared."
 abbrev pub capped : List ℕ → ℕ
-capped t = capped-number largest largest (number t) .value
+capped t = capped-number length-limit length-limit (number t) .value
 
 -- the positions of an element, by what digits are read as
 abbrev pub positions : (List ℕ → ℕ) → List ℕ → List ℕ → Element

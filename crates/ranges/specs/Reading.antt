@@ -9,16 +9,17 @@ use Rattle.grammar.specs.Refusals.{OUT_OF_RANGE}
 use Rattle.grammar.specs.Reading as G
 use Rattle.grammar.specs.Reading.{Verdict}
 use Rattle.grammar.specs.helpers.Judge.{header}
+use Rattle.octets.specs.Numbers.{length-limit}
 use Rattle.ranges.specs.declared.Range.{Range}
 use Rattle.ranges.specs.declared.Outcome.{Outcome}
 use Rattle.ranges.specs.declared.Outcome.the-variants.{Satisfiable, Unsatisfiable, Refused}
 use Rattle.ranges.specs.declared.Reading.{Reading}
 use Rattle.ranges.specs.Meaning.{Ranges, satisfiable, unsatisfiable}
-use Rattle.ranges.specs.Grammar.{element-limit, largest, rules}
+use Rattle.ranges.specs.Grammar.{element-limit, rules}
 
 -- the answer to s in an entity of n bytes: "An entity length above it is refusal 9, first of all."
 abbrev pub reading : ℕ → List ℕ → Verdict Ranges
-reading n s = cond (leb n largest) (header (rules n s) s) (G.refused OUT_OF_RANGE 0)
+reading n s = cond (leb n length-limit) (header (rules n s) s) (G.refused OUT_OF_RANGE 0)
 
 abbrev pub outcome-verdict : Outcome → List Range → Verdict Ranges
 outcome-verdict (Satisfiable count) table = G.value (satisfiable count (take count table))

@@ -3,6 +3,7 @@ ghost use mathlib.Core.Path.{_≡_};
 ghost use Rattle.ranges.specs.Meaning.{begin, end};
 ghost use Rattle.ranges.specs.Reading.{Answered, refused-reading};
 ghost use Rattle.ranges.specs.helpers.Scan.{NumberAt, Begun, NextAt, ElementRead, SeventeenthAt, malformed-at};
+use octets::LENGTH_LIMIT;
 use octets::MALFORMED;
 use octets::OUT_OF_RANGE;
 use octets::Refusal;
@@ -13,9 +14,6 @@ use scans::Decimal;
 
 // How many elements a set may have.
 pub const ELEMENT_LIMIT: usize = 16;
-
-// The largest length of an entity, 2^63 - 1; it stands for larger numbers.
-pub const LENGTH_LIMIT: u64 = 9223372036854775807;
 
 // The bytes of `bytes=`.
 const UNIT_LEN: usize = 6;
@@ -277,7 +275,7 @@ fn read_suffix(s: &[u8], start: usize) -> Step
     }
 }
 
-// The number that stands at `from`; one above the largest is capped to it.
+// The number that stands at `from`; one above the largest length is capped to it.
 fn read_number(s: &[u8], from: usize) -> Number
     ensures { λ r. ⌜ NumberAt (now (s .entry)) from r ⌝ }
 {

@@ -107,6 +107,13 @@ puts-front old part at xs h e = ap₂ (λ (y z : List ℕ). take at old ++ (y ++
     none : drop (length old - at) (drop at old) ≡ []
     none = drop-of-length-le (drop at old) {i = length old - at} (omega (arith, length-drop at old))
 
+-- at the front
+pub placed-front : (old xs : List ℕ) → length xs ≤ length old → placed old 0 xs ≡ xs ++ drop (length xs) old
+placed-front old xs h = placed-fits old 0 xs (omega arith) ∙ ap (λ (n : ℕ). xs ++ drop n old) nought
+  where
+    nought : 0 + length xs ≡ length xs
+    nought = omega arith
+
 -- ## Several, one behind the other
 -- xs is put at `at`, all in all, and p is behind it
 pub record Put (old : List ℕ) (at : ℕ) (xs new : List ℕ) (p : ℕ) : Type 0 where

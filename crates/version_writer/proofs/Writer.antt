@@ -11,7 +11,7 @@ use lib.ListN.{length, drop, length-append}
 use Rattle.numerals.specs.Numeral.{numeral}
 use Rattle.numerals.proofs.Digits.{width-bound, numeral-length}
 use Rattle.text.specs.Placing.{placed, behind}
-use Rattle.text.proofs.Placing.{placed-fits, Put, put-none, put-then}
+use Rattle.text.proofs.Placing.{placed-front, Put, put-none, put-then}
 use Rattle.version_writer.specs.Writing.{http, numbers-text, largest, numbers-too-large}
 
 pub text-length : (x y : ℕ) → length (numbers-text x y) ≡ 6 + (length (numeral 10 x) + length (numeral 10 y))
@@ -25,17 +25,13 @@ pub text-put : (x y : ℕ) (old l₁ l₂ l₃ l₄ : List ℕ) (a b c d : ℕ) 
     → d ≡ behind l₃ c (numeral 10 y) → l₄ ≡ placed l₃ c (numeral 10 y)
     → l₄ ≡ numbers-text x y ++ drop (length (numbers-text x y)) old
 text-put x y old l₁ l₂ l₃ l₄ a b c d h pa e₁ pb e₂ pc e₃ pd e₄ =
-    p₄ .is ∙ ap (placed old 0) whole ∙ placed-fits old 0 (numbers-text x y) (omega arith)
-    ∙ ap (λ (n : ℕ). numbers-text x y ++ drop n old) nought
+    p₄ .is ∙ ap (placed old 0) whole ∙ placed-front old (numbers-text x y) h
   where
     major : List ℕ
     major = numeral 10 x
 
     minor : List ℕ
     minor = numeral 10 y
-
-    nought : 0 + length (numbers-text x y) ≡ length (numbers-text x y)
-    nought = omega arith
 
     p₁ : Put old 0 http l₁ a
     p₁ = put-then old 0 [] old 0 http l₁ a (put-none old 0 (omega arith)) (omega (arith, text-length x y)) pa e₁

@@ -1,4 +1,4 @@
--- `ranges::read_number` meets its contract: each answer of the decimal reading, with the largest number as its cap.
+-- `ranges::read_number` meets its contract: each answer of the decimal reading, with the largest length as its cap.
 use borrow.Author.Needs.{needs}
 use mathlib.Core.Path.{sym, _∙_}
 use Rattle.scans.proofs.Scans.{is-missing}

@@ -13,12 +13,13 @@ use Rattle.grammar.specs.helpers.Checks.{ahead}
 use Rattle.grammar.specs.helpers.Scans.{slice, from}
 use Rattle.octets.specs.Bytes.{digit?}
 use Rattle.scans.specs.helpers.Runs.{run-end}
+use Rattle.octets.specs.Numbers.{length-limit}
 use Rattle.ranges.specs.declared.Element.{Element}
 use Rattle.ranges.specs.declared.Step.{Step}
 use Rattle.ranges.specs.declared.Step.the-variants.{Passed, Stopped}
 use Rattle.ranges.specs.declared.Number.{Number}
 use Rattle.ranges.specs.declared.Number.the-variants.{Digits, Missing}
-use Rattle.ranges.specs.Grammar.{Name, element, others, element-limit, largest, capped, elements, opened, forward, rules}
+use Rattle.ranges.specs.Grammar.{Name, element, others, element-limit, capped, elements, opened, forward, rules}
 
 abbrev pub malformed-at : ℕ → Step
 malformed-at place = Stopped (record { number = MALFORMED; place = place })
@@ -61,7 +62,7 @@ module _ (n : ℕ) (s : List ℕ) where
 
   -- `bytes=` stands in front of a text that is not too long
   pub record Begun : Type 0 where
-    pub length-within : n ≤ largest
+    pub length-within : n ≤ length-limit
     pub found : Found [] 6
 
   -- behind xs, one more element was read; a step that stopped has the answer
