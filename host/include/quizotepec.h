@@ -43,7 +43,7 @@ enum {
     QZ_OUTPUT_TOO_SHORT = 8,
     /* Argument outside its range; place: 0. */
     QZ_OUT_OF_RANGE = 9,
-    /* More than 16 parameters; place: first byte of the 17th attribute. */
+    /* More than 16 parameters, or byte ranges; place: the first byte of the 17th. */
     QZ_TOO_MANY_PARAMETERS = 10,
     /* Attribute repeated, letter case ignored; place: the `=` after the second. */
     QZ_REPEATED_ATTRIBUTE = 11,
@@ -156,6 +156,38 @@ QzQvalue qz_qvalue_read(const uint8_t *s, size_t s_len);
 
 /* Writes the shortest form of a qvalue given in thousandths. */
 QzWritten qz_qvalue_write(uint16_t thousandths, uint8_t *out, size_t out_len);
+
+/* A byte range: the positions of its first and its last byte, counted from 0. */
+typedef struct QzRange {
+    uint64_t first;
+    uint64_t last;
+} QzRange;
+
+/* Byte ranges that were read, resolved against the length of an entity. */
+typedef struct QzRanges {
+    uint8_t number;
+    size_t place;
+    /* the set is well-formed, and no range of it is left */
+    bool unsatisfiable;
+    /* how many ranges there are */
+    size_t count;
+    /* in the order sent; unused entries are zero */
+    QzRange ranges[16];
+} QzRanges;
+
+enum {
+    /* How many entries QzRanges.ranges has. */
+    QZ_RANGES = 16
+};
+
+/* Byte ranges: `bytes=`, then elements first-last, first- or -size with blanks around their commas only. They are
+ * resolved against an entity of so many bytes, at most 2^63 - 1: a last beyond its end is cut, a longer suffix is the
+ * whole entity, an empty range is left out. */
+QzRanges qz_ranges_read(const uint8_t *s, size_t s_len, uint64_t entity_length);
+
+/* Writes the Content-Range value of one range, as `bytes 0-499/1234`, at most 65 bytes: first is at most last, last is
+ * below the length of the entity, and that is at most 2^63 - 1. */
+QzWritten qz_content_range_write(uint64_t first, uint64_t last, uint64_t entity_length, uint8_t *out, size_t out_len);
 
 /* A language tag that was read. */
 typedef struct QzLanguage {
@@ -367,7 +399,7 @@ QzFed qz_pieces_feed(QzPieces pieces, const uint8_t *piece, size_t piece_len, si
 
 /* The version of this header; qz_library_version gives that of the library which is linked. */
 #define QZ_VERSION_MAJOR 0
-#define QZ_VERSION_MINOR 5
+#define QZ_VERSION_MINOR 6
 #define QZ_VERSION_PATCH 0
 
 /* The version of the library. */

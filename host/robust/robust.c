@@ -22,6 +22,7 @@ enum { LINE_LIMIT = 1024, TRAILER_LIMIT = 8192, VALUE_LIMIT = 8192, VERSION_LIMI
 enum { LEVEL_LIMIT = 8 };
 enum { NUMBERS = 16 };
 #define SECONDS_CAP 2147483648u
+#define LENGTH_LIMIT (UINT64_MAX / 2)
 #define EARLIEST INT64_C(-12212553600)
 #define LATEST INT64_C(253402300799)
 #define WRITER_LIMIT ((size_t)1 << 30)
@@ -47,12 +48,12 @@ typedef struct Block {
     size_t length;
 } Block;
 
-/* What a call may use: two inputs, an output, two numbers. */
+/* What a call may use: two inputs, an output, three numbers. */
 typedef struct Call {
     Block a;
     Block b;
     Block out;
-    uint64_t numbers[2];
+    uint64_t numbers[3];
 } Call;
 
 /* What every answer says. */
@@ -99,6 +100,37 @@ static Answer of_QzSeconds(QzSeconds r, const Call *c)
 static Answer of_QzQvalue(QzQvalue r, const Call *c)
 {
     return answer(r.number, r.place, c->a.length, r.number == 0 ? r.value <= QVALUE_LIMIT : r.value == 0);
+}
+
+/* Ranges of an entity, then unused entries. */
+static bool is_table(const QzRanges *r, uint64_t entity_length)
+{
+    bool kept = r->count <= QZ_RANGES;
+    size_t i;
+    for (i = 0; kept && i < QZ_RANGES; i++) {
+        QzRange range = r->ranges[i];
+        kept = i < r->count ? range.first <= range.last && range.last < entity_length
+                            : range.first == 0 && range.last == 0;
+    }
+    return kept;
+}
+
+/* An element begins with a digit or a minus. */
+static bool begins_element(uint8_t byte)
+{
+    return byte == '-' || (byte >= '0' && byte <= '9');
+}
+
+static Answer of_QzRanges(QzRanges r, const Call *c)
+{
+    uint64_t entity_length = c->numbers[0];
+    bool too_long = entity_length > LENGTH_LIMIT;
+    bool named = c->a.length > strlen("bytes=-") && strncasecmp((const char *)c->a.bytes, "bytes=", 6) == 0;
+    bool told = r.number == 0 ? named && r.unsatisfiable == (r.count == 0) : !r.unsatisfiable && r.count == 0;
+    bool crowded = r.number == QZ_TOO_MANY_PARAMETERS && r.place < c->a.length;
+    told = told && (r.number == QZ_OUT_OF_RANGE) == too_long && (!crowded || begins_element(c->a.bytes[r.place]));
+    /* Such a length is refused before anything is read: the place counts in no input. */
+    return answer(r.number, r.place, too_long ? 0 : c->a.length, told && is_table(&r, entity_length));
 }
 
 static Answer of_QzLanguage(QzLanguage r, const Call *c)
@@ -312,6 +344,15 @@ static const char *const versions[] = {"HTTP/1.1", "http/01.0", "HTTP/65535.6553
 static const char *const deltas[] = {"0",          "120",        "2147483647",           "0002147483647",
                                      "2147483648", "4294967301", "18446744073709551621", NULL};
 static const char *const qvalues[] = {"0", "0.", "0.25", "0.999", "1.000", NULL};
+static const char *const ranges[] = {"bytes=0-499",
+                                     "bytes=-5",
+                                     "BYTES=9-",
+                                     "bytes=0-0 ,\t-1, 30-",
+                                     "bytes=5-3",
+                                     "bytes=99999999999999999999-99999999999999999998,9223372036854775807-",
+                                     "bytes=0-,1-,2-,3-,4-,5-,6-,7-,8-,9-,-0,-1,-2,-3,-4,-5",
+                                     "bytes=0-,1-,2-,3-,4-,5-,6-,7-,8-,9-,-0,-1,-2,-3,-4,-5,-6",
+                                     NULL};
 static const char *const languages[] = {"en", "en-US", "x-pig-latin", "abcdefgh-i", NULL};
 static const char *const etags[] = {"\"xyzzy\"", "W/\"xyzzy\"", "w/\"\"", "\"a\\\"b\xff\t\"", NULL};
 static const char *const dates[] = {"Sun, 06 Nov 1994 08:49:37 GMT",
@@ -368,6 +409,8 @@ static uint8_t *lent(Block block, const Call *c)
     ROW(qz_delta_read, (A), QzSeconds, deltas, NO(1) | NO(13))                                                       \
     ROW(qz_qvalue_read, (A), QzQvalue, qvalues, NO(1) | NO(13))                                                      \
     ROW(qz_qvalue_write, ((uint16_t)c->numbers[0], OUT), QzWritten, texts, NO(8) | NO(9))                            \
+    ROW(qz_ranges_read, (A, c->numbers[0]), QzRanges, ranges, NO(1) | NO(9) | NO(10) | NO(13))                       \
+    ROW(qz_content_range_write, (c->numbers[0], c->numbers[1], c->numbers[2], OUT), QzWritten, texts, NO(8) | NO(9)) \
     ROW(qz_language_read, (A), QzLanguage, languages, NO(1) | NO(13))                                                \
     ROW(qz_language_equal, (A, B), QzSame, languages, NO(1) | NO(13))                                                \
     ROW(qz_etag_read, (A), QzTag, etags, NO(1) | NO(13))                                                             \
@@ -602,6 +645,7 @@ static size_t draw_room(size_t input)
 static void draw_call(const Entry *e, Call *c)
 {
     size_t length = draw_bytes(e->samples, drafts[0]);
+    size_t i;
     c->a = lend_input(INPUT, length);
     if (below(2) == 0) {
         /* The same bytes but perhaps for the case of a letter. */
@@ -616,8 +660,9 @@ static void draw_call(const Entry *e, Call *c)
         c->a.length = WRITER_LIMIT + below(3);
     }
     c->out = lend(arenas[OUTPUT], draw_room(c->a.length));
-    c->numbers[0] = draw_number();
-    c->numbers[1] = draw_number();
+    for (i = 0; i < sizeof c->numbers / sizeof c->numbers[0]; i++) {
+        c->numbers[i] = draw_number();
+    }
 }
 
 /* ---- bodies in pieces */
@@ -923,7 +968,8 @@ static void show_feeding(void)
 static void show_call(void)
 {
     fprintf(stderr, "seed %" PRIu64 ", round %" PRIu64 ", %s\n", seed, round_now, entries[round_now % COUNT].name);
-    fprintf(stderr, "numbers given: %" PRIu64 " and %" PRIu64 "\n", call_now.numbers[0], call_now.numbers[1]);
+    fprintf(stderr, "numbers given: %" PRIu64 ", %" PRIu64 " and %" PRIu64 "\n", call_now.numbers[0],
+            call_now.numbers[1], call_now.numbers[2]);
     show("first input", &call_now.a);
     show("second input", &call_now.b);
     fprintf(stderr, "output: %zu bytes\n", call_now.out.length);

@@ -41,7 +41,7 @@ pub const OUTPUT_TOO_SHORT: u8 = 8;
 // Argument outside its range; place: 0.
 pub const OUT_OF_RANGE: u8 = 9;
 
-// More than 16 parameters; place: first byte of the 17th attribute.
+// More than 16 parameters, or byte ranges; place: the first byte of the 17th.
 pub const TOO_MANY_PARAMETERS: u8 = 10;
 
 // Attribute repeated, letter case ignored; place: the `=` after the second.

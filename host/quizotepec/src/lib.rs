@@ -39,6 +39,7 @@ mod media;
 mod numbers;
 mod pieces;
 mod products;
+mod ranges;
 #[allow(dead_code)] // generated whole; a test holds that each of its functions is called
 mod raw;
 mod refusal;
@@ -55,6 +56,7 @@ pub use media::{media_charset, media_equal, media_read, Charset, MediaType, Para
 pub use numbers::{delta_read, qvalue_read, qvalue_write, Seconds};
 pub use pieces::{Fed, Pieces};
 pub use products::{products_read, Products};
+pub use ranges::{content_range_write, ranges_read, Range, RangeSet, Ranges};
 pub use refusal::{Refusal, Refused, Which};
 pub use span::Span;
 pub use url::{url_equal, url_read, Url};

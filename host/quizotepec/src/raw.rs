@@ -28,7 +28,7 @@ pub const OUTPUT_TOO_SHORT: u8 = 8;
 /// Argument outside its range; place: 0.
 pub const OUT_OF_RANGE: u8 = 9;
 
-/// More than 16 parameters; place: first byte of the 17th attribute.
+/// More than 16 parameters, or byte ranges; place: the first byte of the 17th.
 pub const TOO_MANY_PARAMETERS: u8 = 10;
 
 /// Attribute repeated, letter case ignored; place: the `=` after the second.
@@ -141,6 +141,31 @@ pub struct QzQvalue {
     pub place: usize,
     pub value: u32,
 }
+
+/// A byte range: the positions of its first and its last byte, counted from 0.
+#[repr(C)]
+#[derive(Clone, Copy)]
+pub struct QzRange {
+    pub first: u64,
+    pub last: u64,
+}
+
+/// Byte ranges that were read, resolved against the length of an entity.
+#[repr(C)]
+#[derive(Clone, Copy)]
+pub struct QzRanges {
+    pub number: u8,
+    pub place: usize,
+    /// the set is well-formed, and no range of it is left
+    pub unsatisfiable: bool,
+    /// how many ranges there are
+    pub count: usize,
+    /// in the order sent; unused entries are zero
+    pub ranges: [QzRange; 16],
+}
+
+/// How many entries QzRanges.ranges has.
+pub const RANGES: usize = 16;
 
 /// A language tag that was read.
 #[repr(C)]
@@ -314,7 +339,7 @@ pub struct QzFed {
 /// The version of this header; qz_library_version gives that of the library which is linked.
 pub const VERSION_MAJOR: u32 = 0;
 
-pub const VERSION_MINOR: u32 = 5;
+pub const VERSION_MINOR: u32 = 6;
 
 pub const VERSION_PATCH: u32 = 0;
 
@@ -334,6 +359,8 @@ extern "C" {
     pub fn qz_delta_read(s: *const u8, s_len: usize) -> QzSeconds;
     pub fn qz_qvalue_read(s: *const u8, s_len: usize) -> QzQvalue;
     pub fn qz_qvalue_write(thousandths: u16, out: *mut u8, out_len: usize) -> QzWritten;
+    pub fn qz_ranges_read(s: *const u8, s_len: usize, entity_length: u64) -> QzRanges;
+    pub fn qz_content_range_write(first: u64, last: u64, entity_length: u64, out: *mut u8, out_len: usize) -> QzWritten;
     pub fn qz_language_read(s: *const u8, s_len: usize) -> QzLanguage;
     pub fn qz_language_equal(a: *const u8, a_len: usize, b: *const u8, b_len: usize) -> QzSame;
     pub fn qz_etag_read(s: *const u8, s_len: usize) -> QzTag;

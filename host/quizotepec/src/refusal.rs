@@ -61,9 +61,9 @@ pub enum Refusal {
         /// Always 0.
         place: usize,
     },
-    /// Refusal 10: more than 16 parameters.
+    /// Refusal 10: more than 16 parameters or byte ranges.
     TooManyParameters {
-        /// The first byte of the 17th attribute.
+        /// The first byte of the 17th.
         place: usize,
     },
     /// Refusal 11: an attribute repeated, letter case ignored.
@@ -191,7 +191,7 @@ impl Refusal {
             Refusal::BodyTooLarge { .. } => "body too large",
             Refusal::OutputTooShort { .. } => "output too short",
             Refusal::OutOfRange { .. } => "argument outside its range",
-            Refusal::TooManyParameters { .. } => "more than 16 parameters",
+            Refusal::TooManyParameters { .. } => "more than 16 parameters or byte ranges",
             Refusal::RepeatedAttribute { .. } => "attribute repeated",
             Refusal::CommentTooDeep { .. } => "comment nested deeper than 8",
             Refusal::ValueTooLong { .. } => "header value above 8,192 bytes",

@@ -1,4 +1,4 @@
-//! What the crate adds to the library: versions as text, instants as system times, the bytes of a part.
+//! What the crate adds to the library: versions as text, instants as system times, the bytes of a part and of a range.
 
 mod common;
 
@@ -7,9 +7,10 @@ use independent::date;
 use independent::date::{EARLIEST, LATEST, LENGTH};
 use independent::generate::{any, instant, numbers, pair, Kind, Rng};
 use quizotepec::{
-    date_read, date_write, date_write_time, etag_read, language_read, media_charset, media_read, url_read,
-    version_compare, version_read, version_write, Charset, Date, Span, Version,
+    date_read, date_write, date_write_time, etag_read, language_read, media_charset, media_read, ranges_read,
+    url_read, version_compare, version_read, version_write, Charset, Date, Range, Ranges, Span, Version,
 };
+use std::ops::RangeInclusive;
 use std::time::{Duration, SystemTime, UNIX_EPOCH};
 
 const NANOS: i128 = 1_000_000_000;
@@ -141,6 +142,37 @@ fn bytes_of_a_part() {
     for (start, length) in [(7, 0), (0, 7), (6, 1), (usize::MAX, 0), (usize::MAX, 2), (1, usize::MAX)] {
         assert_eq!(of(start, length), None, "{start} {length}");
     }
+}
+
+#[test]
+fn bytes_of_a_range() {
+    let entity = b"abcdef";
+    let of = |first, last| Range { first, last }.of(entity);
+    assert_eq!(of(0, 5), Some(&entity[..]));
+    assert_eq!(of(2, 4), Some(&b"cde"[..]));
+    assert_eq!(of(5, 5), Some(&b"f"[..]));
+    for (first, last) in [(0, 6), (6, 6), (3, 2), (4, 2), (0, u64::MAX), (u64::MAX, 0), (u64::MAX, u64::MAX)]
+    {
+        assert_eq!(of(first, last), None, "{first} {last}");
+    }
+    let length = |first, last| Range { first, last }.length();
+    assert_eq!((length(0, 0), length(2, 4), length(u64::MAX, u64::MAX)), (1, 3, 1));
+    assert_eq!((length(3, 2), length(u64::MAX, 0)), (0, 0));
+    assert_eq!((length(1, u64::MAX), length(0, u64::MAX)), (u64::MAX, u64::MAX));
+}
+
+/// In the entity whose length was given each range has its bytes, as many as its length says.
+#[test]
+fn ranges_in_their_entity() {
+    let entity = b"abcdef";
+    let Ok(Ranges::Satisfiable(set)) = ranges_read(b"bytes=-2,0-0,3-99", 6) else { panic!("three ranges") };
+    let expected: [(&[u8], RangeInclusive<u64>); 3] = [(b"ef", 4..=5), (b"a", 0..=0), (b"def", 3..=5)];
+    for (range, (bytes, positions)) in set.ranges().iter().zip(expected) {
+        assert_eq!(range.of(entity), Some(bytes));
+        assert_eq!(range.length(), bytes.len() as u64);
+        assert_eq!(RangeInclusive::from(*range), positions);
+    }
+    assert_eq!(set.ranges().len(), 3);
 }
 
 #[test]

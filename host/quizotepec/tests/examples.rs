@@ -1,15 +1,15 @@
 //! The examples of document 01 and of RFC 2616 section 3, as written there, and cases beside them; seconds by request
-//! (iii) and trailers by request (xii) of document 02.
+//! (iii), byte ranges by request (iv) and trailers by request (xii) of document 02.
 
 mod common;
 
 use common::{at, lend, whole};
 use quizotepec::{
-    chunked_decode, chunked_encode, date_read, date_write, delta_read, etag_read, etag_strong_match,
-    etag_weak_match, language_equal, language_read, media_charset, media_equal, media_read, products_read,
-    qvalue_read, qvalue_write, url_equal, url_read, version_compare, version_read, version_write, Charset,
-    Date, Decoded, EntityTag, LanguageTag, Parameter, Pieces, Products, Refusal, Refused, Seconds, Span, Url,
-    Version, Which,
+    chunked_decode, chunked_encode, content_range_write, date_read, date_write, delta_read, etag_read,
+    etag_strong_match, etag_weak_match, language_equal, language_read, media_charset, media_equal,
+    media_read, products_read, qvalue_read, qvalue_write, ranges_read, url_equal, url_read, version_compare,
+    version_read, version_write, Charset, Date, Decoded, EntityTag, LanguageTag, Parameter, Pieces, Products,
+    Range, Ranges, Refusal, Refused, Seconds, Span, Url, Version, Which,
 };
 use std::cmp::Ordering;
 
@@ -60,6 +60,164 @@ fn seconds() {
     assert_eq!(delta_read(b"99999999999x"), no(1, 11));
     for digit in [b'0', b'9'] {
         assert_eq!(delta_read(&[digit; 8_193]), no(13, 8_192));
+    }
+}
+
+/// The largest length of an entity.
+const LENGTH_LIMIT: u64 = (1 << 63) - 1;
+
+fn range(first: u64, last: u64) -> Range {
+    Range { first, last }
+}
+
+/// The ranges that are left in an entity of so many bytes; none where the set is unsatisfiable.
+fn ranges_in(entity_length: u64, value: &str) -> Result<Vec<Range>, Refusal> {
+    let ranges = ranges_read(value.as_bytes(), entity_length)?;
+    Ok(match ranges {
+        Ranges::Satisfiable(set) => {
+            assert!(!set.ranges().is_empty(), "{value}");
+            set.ranges().to_vec()
+        }
+        Ranges::Unsatisfiable => Vec::new(),
+    })
+}
+
+/// The examples of RFC 2616 14.35.1 in an entity of 10,000 bytes, and cases of the request.
+#[test]
+fn ranges() {
+    for (value, expected) in [
+        ("bytes=0-499", &[range(0, 499)][..]),
+        ("bytes=500-999", &[range(500, 999)]),
+        ("bytes=-500", &[range(9_500, 9_999)]),
+        ("bytes=9500-", &[range(9_500, 9_999)]),
+        ("bytes=0-0,-1", &[range(0, 0), range(9_999, 9_999)]),
+        ("bytes=500-600,601-999", &[range(500, 600), range(601, 999)]),
+        ("bytes=500-700,601-999", &[range(500, 700), range(601, 999)]),
+        ("bytes=-1,0-0", &[range(9_999, 9_999), range(0, 0)]),
+        ("bytes=1-2 , 3-4", &[range(1, 2), range(3, 4)]),
+        ("bytes=1-2\t,\t \t3-4", &[range(1, 2), range(3, 4)]),
+        ("BYTES=0-", &[range(0, 9_999)]),
+        ("byTes=007-0000000000000000000000008", &[range(7, 8)]),
+        // "a last beyond the end is cut, a longer suffix is the whole entity, an empty range is left out"
+        ("bytes=9999-10000", &[range(9_999, 9_999)]),
+        ("bytes=0-99999999999999999999", &[range(0, 9_999)]),
+        ("bytes=-10001", &[range(0, 9_999)]),
+        ("bytes=-99999999999999999999", &[range(0, 9_999)]),
+        ("bytes=10000-,5-5,-0,20000-30000", &[range(5, 5)]),
+        ("bytes=20000-", &[]),
+        ("bytes=10000-10000", &[]),
+        ("bytes=-0", &[]),
+        // Both are capped before they are compared.
+        ("bytes=99999999999999999999-99999999999999999998", &[]),
+        ("bytes=9223372036854775808-9223372036854775807", &[]),
+    ] {
+        assert_eq!(ranges_in(10_000, value), Ok(expected.to_vec()), "{value}");
+    }
+}
+
+#[test]
+fn entity_lengths() {
+    for value in ["bytes=0-0", "bytes=0-", "bytes=-1", "bytes=-0", "bytes=5-,0-499 ,-99999999999999999999"] {
+        assert_eq!(ranges_in(0, value), Ok(vec![]), "{value}");
+    }
+    assert_eq!(ranges_in(1, "bytes=0-,-1,1-"), Ok(vec![range(0, 0), range(0, 0)]));
+    let last = LENGTH_LIMIT - 1;
+    assert_eq!(ranges_in(LENGTH_LIMIT, "bytes=-1,0-"), Ok(vec![range(last, last), range(0, last)]));
+    let value = "bytes=9223372036854775806-9223372036854775808,9223372036854775807-";
+    assert_eq!(ranges_in(LENGTH_LIMIT, value), Ok(vec![range(last, last)]));
+    // "An entity length above it is refusal 9, first of all."
+    for entity_length in [1 << 63, u64::MAX] {
+        for value in ["bytes=0-499", "bytes=5-3", "", &"b".repeat(8_193)] {
+            assert_eq!(ranges_in(entity_length, value), no(9, 0), "{entity_length}");
+        }
+    }
+}
+
+#[test]
+fn malformed_ranges() {
+    for (value, place) in [
+        ("bytes= 1-2", 6),
+        ("bytes=1-2,", 10),
+        ("bytes=1-2 ", 10),
+        ("bytes=1-2 3-4", 10),
+        ("bytes=1-2,,3-4", 10),
+        ("bytes=1-2, ,3-4", 11),
+        ("bytes=,1-2", 6),
+        ("bytes=1 -2", 7),
+        ("bytes=1- 2", 9),
+        ("bytes=--1", 7),
+        ("bytes=1-2-3", 9),
+        ("bytes=-", 7),
+        ("bytes=5", 7),
+        ("bytes=", 6),
+        ("bytes =1-2", 5),
+        ("byte=1-2", 4),
+        ("", 0),
+        // "A last below its first, once its digits end, is malformed at its last digit, whatever follows."
+        ("bytes=5-3", 8),
+        ("bytes=5-3x", 8),
+        ("bytes=5-3,", 8),
+        ("bytes=5-03,17", 9),
+        ("bytes=1-2,50-30", 14),
+        ("bytes=9223372036854775807-9223372036854775806", 44),
+    ] {
+        assert_eq!(ranges_in(10_000, value), no(1, place), "{value}");
+    }
+    // Without its last digit the number could go on: it is not yet below.
+    assert_eq!(ranges_in(10_000, "bytes=5-30"), Ok(vec![range(5, 30)]));
+    assert_eq!(ranges_in(10_000, &format!("bytes=0-{}", "0".repeat(8_184))), Ok(vec![range(0, 0)]));
+    assert_eq!(ranges_in(10_000, &format!("bytes=0-{}", "0".repeat(8_185))), no(13, 8_192));
+}
+
+/// "up to 16 (a seventeenth is refusal 10 at its first byte)": left out or not, each element counts.
+#[test]
+fn range_limit() {
+    let sixteen = format!("bytes=20000-{}", " ,\t-1".repeat(15));
+    let place = sixteen.len() + 1;
+    assert_eq!(ranges_in(10_000, &sixteen), Ok(vec![range(9_999, 9_999); 15]));
+    assert_eq!(ranges_in(10_000, &format!("bytes=1-2{}", ",1-2".repeat(15))), Ok(vec![range(1, 2); 16]));
+    for tail in ["1-2", "-", "5-3", "1x", "20000-"] {
+        assert_eq!(ranges_in(10_000, &format!("{sixteen},{tail}")), no(10, place), "{tail}");
+        assert_eq!(ranges_in(10_000, &format!("{sixteen}, {tail}")), no(10, place + 1), "{tail}");
+    }
+    for tail in ["", ",", "x"] {
+        assert_eq!(ranges_in(10_000, &format!("{sixteen},{tail}")), no(1, place), "{tail}");
+    }
+}
+
+#[test]
+fn content_ranges() {
+    let write = |first, last, entity_length, room, text: &str| {
+        lend(room, |out| content_range_write(range(first, last), entity_length, out), |_| text.into())
+    };
+    let last = LENGTH_LIMIT - 1;
+    let longest = "bytes 9223372036854775806-9223372036854775806/9223372036854775807";
+    for (first, last, entity_length, text) in [
+        (0, 499, 1_234, "bytes 0-499/1234"),
+        (500, 999, 1_234, "bytes 500-999/1234"),
+        (500, 1_233, 1_234, "bytes 500-1233/1234"),
+        (734, 1_233, 1_234, "bytes 734-1233/1234"),
+        (0, 0, 1, "bytes 0-0/1"),
+        (9, 10, 100, "bytes 9-10/100"),
+        (last, last, LENGTH_LIMIT, longest),
+    ] {
+        assert_eq!(write(first, last, entity_length, AMPLE + 1, text), Ok(text.len()));
+        assert_eq!(write(first, last, entity_length, text.len(), text), Ok(text.len()));
+        assert_eq!(write(first, last, entity_length, text.len() - 1, ""), no(8, 0));
+        assert_eq!(write(first, last, entity_length, 0, ""), no(8, 0));
+    }
+    for (first, last, entity_length) in [
+        (1, 0, 1_234),
+        (0, 1_234, 1_234),
+        (0, 0, 0),
+        (0, 0, LENGTH_LIMIT + 1),
+        (0, 0, u64::MAX),
+        (0, u64::MAX, u64::MAX),
+        (u64::MAX, 0, 1),
+    ] {
+        for room in [0, AMPLE] {
+            assert_eq!(write(first, last, entity_length, room, ""), no(9, 0));
+        }
     }
 }
 

@@ -17,7 +17,7 @@ const MEANINGS: [&str; 15] = [
     "body too large",
     "output too short",
     "argument outside its range",
-    "more than 16 parameters",
+    "more than 16 parameters or byte ranges",
     "attribute repeated",
     "comment nested deeper than 8",
     "header value above 8,192 bytes",

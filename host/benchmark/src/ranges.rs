@@ -1,0 +1,39 @@
+//! Byte ranges against a plain reader.
+
+use crate::measure::{timed, times_as_long, Ratio};
+use independent::plain_values::ranges;
+use quizotepec::ranges_read;
+use std::hint::black_box;
+use std::time::Duration;
+
+const ROUNDS: usize = 101;
+/// About how many bytes a round reads.
+const BYTES: usize = 1 << 20;
+const ENTITY_LENGTH: u64 = 10_000;
+
+/// The time of many readings.
+fn round<A>(value: &[u8], read: impl Fn(&[u8], u64) -> A) -> Duration {
+    let read_all = || {
+        for _ in 0..BYTES / value.len() {
+            black_box(read(black_box(value), black_box(ENTITY_LENGTH)));
+        }
+    };
+    timed(read_all).0
+}
+
+fn compare(value: &[u8]) -> Ratio {
+    assert!(ranges_read(value, ENTITY_LENGTH).is_ok() && ranges(value, ENTITY_LENGTH).is_ok());
+    let mut ours = || round(value, ranges_read);
+    let mut plain = || round(value, ranges);
+    times_as_long(ROUNDS, &mut [&mut ours, &mut plain])[0]
+}
+
+pub fn print() {
+    println!("Byte ranges: how many times as long ours takes as plain Rust; medians of {ROUNDS} rounds, and");
+    println!("quartiles.");
+    println!("{:16} {:>26}", "elements", "against plain Rust");
+    let sixteen = format!("bytes=0-99{}", " , 9500-9999".repeat(15));
+    for (name, value) in [("1", "bytes=0-499"), ("4", "bytes=0-499,9500-,-500,500-20000"), ("16", &sixteen)] {
+        println!("{name:16} {:>26}", compare(value.as_bytes()).to_string());
+    }
+}
