@@ -31,7 +31,8 @@ use Rattle.ranges.proofs.Parts.{standing}
 pub answers : (n : ℕ) (s : List ℕ) (v : Verdict Ranges) → (reading n s ≡ v) ↔ Asked (n ≤ 9223372036854775807) (Answers (rules n s) s) v
 answers n s =
     asked-exactly (n ≤ length-limit) (Answers (rules n s) s) (leb n length-limit) (leb-true n length-limit)
-    (λ e h. absurd (omega (arith, leb-false n length-limit e))) (header (rules n s) s) (judged-exactly (plain-rules n) tt tt one-way forward s)
+    (λ e h. absurd (omega (arith, leb-false n length-limit e))) (header (rules n s) s)
+    (judged-exactly (plain-rules n) tt tt one-way forward s)
 
 -- "A last below its first, once its digits end, is malformed at its last digit, whatever follows": a value p that is malformed at its last
 -- byte stays so, whatever u follows that is not a digit more.
@@ -89,8 +90,8 @@ module _ (n : ℕ) (s : List ℕ) (v : Ranges) (e : reading n s ≡ value v) (ps
   pub in-entity : Each (InEntity n) (ranges-in v)
   in-entity = subst (Each (InEntity n)) (sym ranges-are) (each-in n (elements capped ps))
 
--- "up to 16", "A last below its first .. is malformed": a well-formed set is read exactly when it has at most 16 elements and no last, capped,
--- is below its first.
+-- "up to 16", "A last below its first .. is malformed": a well-formed set is read exactly when it has at most 16 elements and no last,
+-- capped, is below its first, capped.
 module _ (n : ℕ) (s : List ℕ) (small : n ≤ 9223372036854775807) (short : length s ≤ value-limit)
     (ps : List (Part Name)) (p : Parses byte-ranges 0 s ps) where
   sound-so : (v : Ranges) → Answers (rules n s) s (value v) → Sound (rules n s) s (length s)

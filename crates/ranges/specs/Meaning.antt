@@ -40,7 +40,8 @@ Each P (x ∷ xs) = P x × Each P xs
 
 -- ## Resolved
 
--- where the range of an element begins, and the position behind its end: "a last beyond the end is cut, a longer suffix is the whole entity"
+-- where the range of an element begins, and the position behind its end: "a last beyond the end is cut, a longer suffix is the whole
+-- entity"
 abbrev pub begin : ℕ → Element → ℕ
 begin n (Closed first last) = first
 begin n (Open first) = first

@@ -3,6 +3,7 @@
 mod bodies;
 mod measure;
 mod pieces;
+mod ranges;
 mod seconds;
 mod trailers;
 mod values;
@@ -17,4 +18,6 @@ fn main() {
     values::print();
     println!();
     seconds::print();
+    println!();
+    ranges::print();
 }
