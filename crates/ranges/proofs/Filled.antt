@@ -14,11 +14,11 @@ use Rattle.grammar.proofs.Loop.{header-long}
 use Rattle.octets.specs.Numbers.{length-limit}
 use Rattle.ranges.specs.declared.Element.{Element}
 use Rattle.ranges.specs.declared.Range.{Range}
-use Rattle.ranges.specs.declared.Outcome.the-variants.{Satisfiable, Unsatisfiable}
-use Rattle.ranges.specs.Meaning.{begin, end, kept, resolved, Ranges, satisfiable, unsatisfiable, answer}
+use Rattle.ranges.specs.declared.Outcome.{Outcome}
+use Rattle.ranges.specs.Meaning.{begin, end, kept, resolved, satisfiable, answer}
 use Rattle.ranges.specs.Grammar.{Name, others, element-limit, elements, capped, rules}
-use Rattle.ranges.specs.Reading.{reading, padded, filled, table-of, refused-reading, Answered}
-use Rattle.ranges.specs.helpers.Scan.{FoundBefore, Found, Read}
+use Rattle.ranges.specs.Reading.{reading, outcome-verdict, padded, filled, table-of, refused-reading, Answered}
+use Rattle.ranges.specs.helpers.Scan.{outcome-of, FoundBefore, Found, Read}
 use Rattle.ranges.proofs.Scan.{left-none, left-some, no-more, element-missing}
 
 padded-take : (n : ℕ) (rs : List Range) → length rs ≤ n → take (length rs) (padded n rs) ≡ rs
@@ -132,23 +132,17 @@ module _ {n : ℕ} {s : List ℕ} {t : List Range} {count seen i : ℕ} (w : Fil
       all-read : reading n s ≡ value (answer (resolved n (w .read)))
       all-read = reading-is ∙ no-more n s behind h ∙ ap (λ (xs : List Element). value (answer (resolved n xs))) elements-are
 
-      pub unsatisfied : count ≡ 0 → Answered n s (record { outcome = Unsatisfiable; ranges = t })
-      unsatisfied z = go (resolved n (w .read)) (omega (arith, w .counted)) all-read (w .is)
+      pub told : (o : Outcome) → o ≡ outcome-of count → Answered n s (record { outcome = o; ranges = t })
+      told o is = go (resolved n (w .read)) (is ∙ ap outcome-of (w .counted)) (resolved-few n (w .read)) all-read (w .is)
         where
-          go : (rs : List Range) → length rs ≡ 0 → reading n s ≡ value (answer rs) → t ≡ filled rs
-              → Answered n s (record { outcome = Unsatisfiable; ranges = t })
-          go [] l e f = (sym e, f ∙ sym (ap table-of e))
-          go (r ∷ rs) l e f = absurd (omega arith)
-
-      pub satisfied : (count ≡ 0 → ⊥) → Answered n s (record { outcome = Satisfiable count; ranges = t })
-      satisfied z = go (resolved n (w .read)) (w .counted) (resolved-few n (w .read)) all-read (w .is)
-        where
-          go : (rs : List Range) → count ≡ length rs → length rs ≤ length (w .read) → reading n s ≡ value (answer rs) → t ≡ filled rs
-              → Answered n s (record { outcome = Satisfiable count; ranges = t })
-          go [] l few e f = absurd (z l)
+          go : (rs : List Range) → o ≡ outcome-of (length rs) → length rs ≤ length (w .read) → reading n s ≡ value (answer rs) → t ≡ filled rs
+              → Answered n s (record { outcome = o; ranges = t })
+          go [] l few e f = (ap (λ (x : Outcome). outcome-verdict x t) l ∙ sym e, f ∙ sym (ap table-of e))
           go (r ∷ rs) l few e f = (
-            ap₂ (λ (m : ℕ) (u : List Range). value (satisfiable m u)) l
-                (ap₂ take l f ∙ padded-take element-limit (r ∷ rs) (omega (arith, w .found .before .few))) ∙ sym e,
+            ap (λ (x : Outcome). outcome-verdict x t) l
+                ∙ ap (λ (u : List Range). value (satisfiable (length (r ∷ rs)) u))
+                (ap (take (length (r ∷ rs))) f ∙ padded-take element-limit (r ∷ rs) (omega (arith, w .found .before .few)))
+                ∙ sym e,
             f ∙ sym (ap table-of e),
           )
 

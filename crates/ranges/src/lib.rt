@@ -2,7 +2,7 @@
 ghost use mathlib.Core.Path.{_≡_};
 ghost use Rattle.ranges.specs.Meaning.{begin, end};
 ghost use Rattle.ranges.specs.Reading.{Answered, refused-reading};
-ghost use Rattle.ranges.specs.helpers.Scan.{NumberAt, Begun, NextAt, ElementRead, SeventeenthAt, malformed-at};
+ghost use Rattle.ranges.specs.helpers.Scan.{NumberAt, Begun, NextAt, ElementRead, SeventeenthAt, malformed-at, outcome-of};
 use octets::LENGTH_LIMIT;
 use octets::MALFORMED;
 use octets::OUT_OF_RANGE;
@@ -107,10 +107,8 @@ fn read_elements(s: &[u8], entity_length: u64) -> Reading
                 let from = begin_of(element, entity_length);
                 let to = end_of(element, entity_length);
                 if from < to {
-                    ranges[count] = Range {
-                        first: from,
-                        last: to - 1,
-                    };
+                    let last = to - 1;
+                    ranges[count] = Range { first: from, last };
                     count += 1;
                 }
                 elements += 1;
@@ -121,16 +119,18 @@ fn read_elements(s: &[u8], entity_length: u64) -> Reading
     if elements == 0 {
         return refused(MALFORMED, at);
     }
+    let outcome = outcome_of(count);
+    Reading { outcome, ranges }
+}
+
+// A set that leaves so many ranges.
+fn outcome_of(count: usize) -> Outcome
+    ensures { λ r. ⌜ r ≡ outcome-of count ⌝ }
+{
     if count == 0 {
-        return Reading {
-            outcome: Outcome::Unsatisfiable,
-            ranges,
-        };
+        return Outcome::Unsatisfiable;
     }
-    Reading {
-        outcome: Outcome::Satisfiable(count),
-        ranges,
-    }
+    Outcome::Satisfiable(count)
 }
 
 // Where the range of an element begins.

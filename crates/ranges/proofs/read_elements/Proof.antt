@@ -9,7 +9,7 @@ use lib.ListN.{length}
 use Rattle.ranges.specs.Reading.{Answered}
 use Rattle.ranges.specs.helpers.Scan.{StepAt, Read}
 use Rattle.ranges.proofs.Filled.{Filling, filling-few, filling-counted, filling-kept, filling-left-out}
-use Rattle.ranges.proofs.Filled.{none-read, unsatisfied, satisfied, refused-answer, refused-found}
+use Rattle.ranges.proofs.Filled.{none-read, told, refused-answer, refused-found}
 use Rattle.ranges.proofs.read_elements.Statement.{statement}
 use Rattle.ranges.proofs.read_elements.Tie as tie
 
@@ -52,8 +52,8 @@ module _ (c : tie.After-end-of Inv-loop μ-loop) where
       (c .before .before .before .element .given .0 .1 .0)
   passed = subst (StepAt (n d) (s d) (l d .loop .inv .read) (l d .loop .at)) (c .before .before .before .element .given .1) (step d)
 
-sub-t17 : tie.Need-sub-t17 Inv-loop μ-loop
-sub-t17 c = omega (arith, c .if1 .taken)
+sub-last : tie.Need-sub-last Inv-loop μ-loop
+sub-last c = omega (arith, c .if1 .taken)
 
 few : tie.Need-array-set-from-ranges Inv-loop μ-loop
 few c = let e = c .before in filling-few (l (d e) .loop .inv) (passed e)
@@ -83,15 +83,10 @@ returns-2 c =
 
 returns-3 : tie.Need-returns-3 Inv-loop μ-loop
 returns-3 c =
-    let m = c .before .before .before in
-    unsatisfied (m .loop .inv) (m .before .before .pre .length-within) (c .before .if2 .left) (omega (arith, c .before .before .loop-test .left))
-    (c .if3 .taken)
-
-returns-4 : tie.Need-returns-4 Inv-loop μ-loop
-returns-4 c =
-    let m = c .before .before .before in
-    satisfied (m .loop .inv) (m .before .before .pre .length-within) (c .before .if2 .left) (omega (arith, c .before .before .loop-test .left))
-    (c .if3 .left)
+    let d = c .before in
+    let m = d .before .before in
+    told (m .loop .inv) (m .before .before .pre .length-within) (d .if2 .left) (omega (arith, d .before .loop-test .left))
+    (c .outcome-of .result) (c .outcome-of .ensures)
 
 pub read-elements-spec : {M : Type 1} → statement M
 read-elements-spec =
@@ -107,7 +102,7 @@ read-elements-spec =
     (λ c. search needs)
     (λ c κs. search needs)
     (λ c κs. search needs)
-    sub-t17
+    sub-last
     (λ c. omega (arith, few c))
     few
     (λ c. omega (arith, few c))
@@ -116,5 +111,5 @@ read-elements-spec =
     loop-again
     (λ c κs. search needs)
     returns-2
-    returns-3
-    returns-4)
+    (λ c κs. search needs)
+    returns-3)

@@ -15,6 +15,8 @@ use Rattle.octets.specs.Bytes.{digit?}
 use Rattle.scans.specs.helpers.Runs.{run-end}
 use Rattle.octets.specs.Numbers.{length-limit}
 use Rattle.ranges.specs.declared.Element.{Element}
+use Rattle.ranges.specs.declared.Outcome.{Outcome}
+use Rattle.ranges.specs.declared.Outcome.the-variants.{Satisfiable, Unsatisfiable}
 use Rattle.ranges.specs.declared.Step.{Step}
 use Rattle.ranges.specs.declared.Step.the-variants.{Passed, Stopped}
 use Rattle.ranges.specs.declared.Number.{Number}
@@ -23,6 +25,10 @@ use Rattle.ranges.specs.Grammar.{Name, element, others, element-limit, c
 
 abbrev pub malformed-at : ℕ → Step
 malformed-at place = Stopped (record { number = MALFORMED; place = place })
+
+abbrev pub outcome-of : ℕ → Outcome
+outcome-of zero = Unsatisfiable
+outcome-of (suc n) = Satisfiable (suc n)
 
 -- what is left of the grammar behind so many elements
 abbrev pub left : ℕ → Grammar Name
