@@ -4,17 +4,17 @@ use native.Mathlib.Omega.{arith}
 use borrow.Author.Tests.{eq-eqb, eqb-true, lt-ltb, le-ltb, ltb-true, ltb-false}
 use mathlib.Core.Path.{_≡_, refl, sym, ap, ap₂, subst, _∙_}
 use mathlib.Core.Logic.{_⊎_, inl, inr, ⊎-elim}
-use mathlib.Core.Bool.{Bool, true, false, cond, _&&_, not, true≢false}
+use mathlib.Core.Bool.{Bool, true, false, cond, _&&_, true≢false}
 use mathlib.Core.List.{List, [], _∷_, _++_, append-nil, append-assoc}
-use mathlib.Core.Option.{Option, none, some}
+use mathlib.Core.Option.{some}
 use lib.Dec.{T, ltb, eqb}
 use lib.ListN.{length, take, drop, getD, length-append, take-append-drop}
 use lib.Seq.{take-all, length-take-le, drop-cons, drop-append-le, drop-append-seam, drop-append-add}
 use Rattle.grammar.specs.Grammar.{Part, Grammar, Parses, past}
-use Rattle.grammar.specs.helpers.Derivative.{live, residual}
+use Rattle.grammar.specs.helpers.Derivative.{residual}
 use Rattle.grammar.specs.helpers.Judge.{held}
 use Rattle.grammar.specs.helpers.Checks.{fresh?}
-use Rattle.grammar.specs.Reading.{Limit, unfit, Rules, parts-before, Passes, Sound}
+use Rattle.grammar.specs.Reading.{Limit, unfit, Rules, parts-before, Passes}
 use Rattle.grammar.specs.Endings.{Judgement, stops, ended, judging}
 use Rattle.grammar.proofs.Derivative.{past-append, residual-means}
 use Rattle.grammar.proofs.Endings.{ended-last}

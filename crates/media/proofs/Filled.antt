@@ -1,28 +1,19 @@
 -- The table that is filled, and the whole answer.
-use Prim.Native.Nat.{ℕ, zero, suc, _+_, _≤_, _<_}
+use Prim.Native.Nat.{ℕ, _+_, _≤_, _<_}
 use native.Mathlib.Omega.{arith}
-use mathlib.Core.Path.{_≡_, refl, sym, ap, ap₂, subst, _∙_}
+use mathlib.Core.Path.{_≡_, sym, ap, ap₂, subst, _∙_}
 use mathlib.Core.List.{List, [], _∷_, _++_, append-nil}
 use lib.ListN.{length, take, set}
 use Rattle.grammar.specs.Reading.{value, refused}
 use Rattle.grammar.specs.helpers.Judge.{header}
+use Rattle.octets.proofs.Entries.{padded-take, padded-set}
 use Rattle.media.specs.declared.MediaType.{MediaType}
 use Rattle.media.specs.declared.Parameter.{Parameter}
 use Rattle.media.specs.declared.Outcome.the-variants as O
 use Rattle.media.specs.Grammar.{entries, kind, rules, parameter-limit}
-use Rattle.media.specs.Reading.{padded, filled, table-of, Answered}
+use Rattle.media.specs.Reading.{unused, filled, table-of, Answered}
 use Rattle.media.specs.helpers.Scan.{counted, Found, Read}
 use Rattle.media.proofs.Scan.{counted-in, no-more}
-
-padded-take : (n : ℕ) (ps : List Parameter) → length ps ≤ n → take (length ps) (padded n ps) ≡ ps
-padded-take n [] h = refl
-padded-take zero (p ∷ ps) h = absurd (omega arith)
-padded-take (suc n) (p ∷ ps) h = ap (λ (qs : List Parameter). p ∷ qs) (padded-take n ps (omega arith))
-
-padded-set : (n : ℕ) (ps : List Parameter) (p : Parameter) → length ps < n → set (padded n ps) (length ps) p ≡ padded n (ps ++ p ∷ [])
-padded-set zero ps p h = absurd (omega arith)
-padded-set (suc n) [] p h = refl
-padded-set (suc n) (q ∷ ps) p h = ap (λ (qs : List Parameter). q ∷ qs) (padded-set n ps p (omega arith))
 
 -- the parameters before the place i are the first entries of the table t, and no others are used
 pub record Filling (s : List ℕ) (m : MediaType) (t : List Parameter) (i : ℕ) : Type 0 where
@@ -33,7 +24,7 @@ pub record Filling (s : List ℕ) (m : MediaType) (t : List Parameter) (i : ℕ)
 module _ {s : List ℕ} {m : MediaType} {t : List Parameter} {i : ℕ} (w : Filling s m t i) where
   entries-are : take (m .count) t ≡ w .table
   entries-are =
-      ap₂ take (sym (counted-in (w .found .before))) (w .is) ∙ padded-take parameter-limit (w .table) (w .found .before .few)
+      ap₂ take (sym (counted-in (w .found .before))) (w .is) ∙ padded-take unused parameter-limit (w .table) (w .found .before .few)
 
   pub filling-found : Found s m (take (m .count) t) i
   filling-found = subst (λ (ps : List Parameter). Found s m ps i) (sym entries-are) (w .found)
@@ -50,7 +41,7 @@ module _ {s : List ℕ} {m : MediaType} {t : List Parameter} {i : ℕ} (w : Fill
       table = w .table ++ p ∷ [];
       found = subst (λ (ps : List Parameter). Found s (counted m (m .count + 1)) (ps ++ p ∷ []) e) entries-are (r .found);
       is = ap₂ (λ (u : List Parameter) (n : ℕ). set u n p) (w .is) (sym (counted-in (w .found .before)))
-          ∙ padded-set parameter-limit (w .table) p room;
+          ∙ padded-set unused parameter-limit (w .table) p room;
     }
 
   -- the text ends there

@@ -1,12 +1,13 @@
 -- Document 01's numbers and values for each case of the answers.
-use Prim.Native.Nat.{ℕ, zero, suc}
+use Prim.Native.Nat.{ℕ}
 use mathlib.Core.Path.{_≡_}
 use mathlib.Core.Bool.{false}
-use mathlib.Core.List.{List, [], _∷_}
+use mathlib.Core.List.{List, []}
 use lib.ListN.{take}
 use Rattle.grammar.specs.Reading as G
 use Rattle.grammar.specs.Reading.{Verdict}
 use Rattle.grammar.specs.helpers.Judge.{header}
+use Rattle.octets.specs.Tables.{padded}
 use Rattle.media.specs.declared.Parameter.{Parameter}
 use Rattle.media.specs.declared.Outcome.{Outcome}
 use Rattle.media.specs.declared.Outcome.the-variants.{Read, Refused}
@@ -24,14 +25,8 @@ verdict r = outcome-verdict (r .outcome) (r .parameters)
 abbrev pub unused : Parameter
 unused = record { start = 0; length = 0; «value_start» = 0; «value_length» = 0; quoted = false }
 
--- so many entries: the parameters, then unused ones
-abbrev pub padded : ℕ → List Parameter → List Parameter
-padded zero ps = []
-padded (suc n) [] = unused ∷ padded n []
-padded (suc n) (p ∷ ps) = p ∷ padded n ps
-
 abbrev pub filled : List Parameter → List Parameter
-filled ps = padded parameter-limit ps
+filled ps = padded unused parameter-limit ps
 
 -- the table beside an answer: all of it is unused where the input was refused
 abbrev pub table-of : Verdict Media → List Parameter

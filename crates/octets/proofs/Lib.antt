@@ -5,4 +5,5 @@ pub mod SameBy
 pub mod SameBytes
 pub mod Writing
 pub mod Answers
+pub mod Entries
 pub mod Alike

@@ -3,6 +3,7 @@ pub mod Numbers
 pub mod Case
 pub mod Classes
 pub mod Writing
+pub mod Tables
 pub mod Quoted
 pub mod Same
 pub mod Comparing

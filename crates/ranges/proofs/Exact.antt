@@ -1,10 +1,10 @@
 -- A well-formed set is read exactly when it has at most 16 elements and no last position is below its first.
 use Prim.Native.Nat.{ℕ, zero, suc, _+_, _-_, _≤_, _<_}
 use native.Mathlib.Omega.{arith}
-use borrow.Author.Tests.{lt-ltb, le-ltb, ltb-true, ltb-false}
+use borrow.Author.Tests.{le-ltb, ltb-true, ltb-false}
 use mathlib.Core.Path.{_≡_, refl, sym, ap, subst, _∙_}
-use mathlib.Core.Logic.{_⊎_, inl, inr}
-use mathlib.Core.Bool.{Bool, true, false, cond, _&&_, true≢false}
+use mathlib.Core.Logic.{inl, inr}
+use mathlib.Core.Bool.{Bool, true, false, cond, _&&_}
 use mathlib.Core.List.{List, [], _∷_, _++_, append-assoc}
 use mathlib.Core.Option.{Option, none, some}
 use lib.Dec.{T, ltb}
@@ -18,13 +18,11 @@ use Rattle.grammar.proofs.Exact.{Steady}
 use Rattle.grammar.proofs.Longest.{past-length}
 use Rattle.grammar.proofs.Order.{Laid, passed-with, passes-with, fits-of, never-unfit}
 use Rattle.octets.specs.Bytes.{digit?, blank?}
-use Rattle.ranges.specs.declared.Element.{Element}
-use Rattle.ranges.specs.declared.Element.the-variants.{Closed}
 use Rattle.ranges.specs.Meaning.{Each, Forward}
-use Rattle.ranges.specs.Grammar.{Name, sign?, opens?, last?, capped, positions, element-of, elements, opened, backward, ends-backward}
+use Rattle.ranges.specs.Grammar.{Name, opens?, last?, capped, positions, element-of, elements, opened, backward, ends-backward}
 use Rattle.ranges.specs.Grammar.{byte-ranges, element-limit, limit, forward, plain-rules, rules}
 use Rattle.ranges.specs.Parts.{ElementParts, InTurn}
-use Rattle.ranges.proofs.Limits.{backward-last, not-backward}
+use Rattle.ranges.proofs.Limits.{backward-last}
 use Rattle.ranges.proofs.Parts.{Opened, Standing, standing}
 
 -- no set can be read in two ways

@@ -3,7 +3,7 @@ use Prim.Native.Nat.{ℕ}
 use Prim.Native.Char.{code}
 use Prim.Native.String.{String}
 use mathlib.Core.Path.{_≡_, refl}
-use mathlib.Core.List.{List, [], _∷_, _++_}
+use mathlib.Core.List.{List, [], _∷_}
 use lib.ListN.{length, replicate}
 use Rattle.grammar.specs.Grammar.{lower}
 use Rattle.grammar.specs.Refusals.{MALFORMED, OUT_OF_RANGE, TOO_MANY_PARAMETERS, VALUE_TOO_LONG}

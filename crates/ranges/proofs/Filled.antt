@@ -1,35 +1,26 @@
 -- The table that is filled, and the whole answer.
-use Prim.Native.Nat.{ℕ, zero, suc, _+_, _-_, _≤_, _<_}
+use Prim.Native.Nat.{ℕ, _+_, _-_, _≤_, _<_}
 use native.Mathlib.Omega.{arith}
 use borrow.Author.Tests.{lt-ltb, le-ltb, lt-leb, le-leb}
-use mathlib.Core.Path.{_≡_, refl, sym, ap, ap₂, subst, _∙_}
+use mathlib.Core.Path.{_≡_, sym, ap, ap₂, subst, _∙_}
 use mathlib.Core.Bool.{Bool, true, false, cond}
 use mathlib.Core.List.{List, [], _∷_, _++_, append-nil, append-assoc}
 use lib.Dec.{ltb}
 use lib.ListN.{length, take, set, length-append}
 use Rattle.grammar.specs.Grammar.{Grammar}
-use Rattle.grammar.specs.Reading.{value-limit, Verdict, value, refused}
+use Rattle.grammar.specs.Reading.{value-limit, value, refused}
 use Rattle.grammar.specs.helpers.Judge.{header}
 use Rattle.grammar.proofs.Loop.{header-long}
 use Rattle.octets.specs.Numbers.{length-limit}
+use Rattle.octets.proofs.Entries.{padded-take, padded-set}
 use Rattle.ranges.specs.declared.Element.{Element}
 use Rattle.ranges.specs.declared.Range.{Range}
 use Rattle.ranges.specs.declared.Outcome.{Outcome}
 use Rattle.ranges.specs.Meaning.{begin, end, kept, resolved, satisfiable, answer}
 use Rattle.ranges.specs.Grammar.{Name, others, element-limit, elements, capped, rules}
-use Rattle.ranges.specs.Reading.{reading, outcome-verdict, padded, filled, table-of, refused-reading, Answered}
+use Rattle.ranges.specs.Reading.{reading, outcome-verdict, unused, filled, table-of, refused-reading, Answered}
 use Rattle.ranges.specs.helpers.Scan.{outcome-of, FoundBefore, Found, Read}
 use Rattle.ranges.proofs.Scan.{left-none, left-some, no-more, element-missing}
-
-padded-take : (n : ℕ) (rs : List Range) → length rs ≤ n → take (length rs) (padded n rs) ≡ rs
-padded-take n [] h = refl
-padded-take zero (r ∷ rs) h = absurd (omega arith)
-padded-take (suc n) (r ∷ rs) h = ap (λ (qs : List Range). r ∷ qs) (padded-take n rs (omega arith))
-
-padded-set : (n : ℕ) (rs : List Range) (r : Range) → length rs < n → set (padded n rs) (length rs) r ≡ padded n (rs ++ r ∷ [])
-padded-set zero rs r h = absurd (omega arith)
-padded-set (suc n) [] r h = refl
-padded-set (suc n) (q ∷ rs) r h = ap (λ (qs : List Range). q ∷ qs) (padded-set n rs r (omega arith))
 
 -- ## One element more
 
@@ -89,7 +80,7 @@ module _ {n : ℕ} {s : List ℕ} {t : List Range} {count seen i : ℕ} (w : Fil
             found = next-found;
             number = next-number;
             is = table ∙ ap₂ (λ (v : List Range) (k : ℕ). set v k (record { first = b; last = f - 1 })) (w .is) (w .counted)
-                ∙ padded-set element-limit (resolved n (w .read)) (record { first = b; last = f - 1 })
+                ∙ padded-set unused element-limit (resolved n (w .read)) (record { first = b; last = f - 1 })
                 (omega (arith, resolved-few n (w .read), room))
                 ∙ ap filled (sym one);
             counted = number ∙ ap (λ (k : ℕ). k + 1) (w .counted)
@@ -141,7 +132,7 @@ module _ {n : ℕ} {s : List ℕ} {t : List Range} {count seen i : ℕ} (w : Fil
           go (r ∷ rs) l few e f = (
             ap (λ (x : Outcome). outcome-verdict x t) l
                 ∙ ap (λ (u : List Range). value (satisfiable (length (r ∷ rs)) u))
-                (ap (take (length (r ∷ rs))) f ∙ padded-take element-limit (r ∷ rs) (omega (arith, w .found .before .few)))
+                (ap (take (length (r ∷ rs))) f ∙ padded-take unused element-limit (r ∷ rs) (omega (arith, w .found .before .few)))
                 ∙ sym e,
             f ∙ sym (ap table-of e),
           )

@@ -1,8 +1,8 @@
 -- The ranges that elements are resolved to hold the bytes that the elements ask for, capped or not.
-use Prim.Native.Nat.{ℕ, suc, _+_, _-_, _≤_, _<_, min}
+use Prim.Native.Nat.{ℕ, _+_, _-_, _≤_, _<_}
 use native.Mathlib.Omega.{arith}
 use borrow.Author.Tests.{ltb-true, ltb-false}
-use mathlib.Core.Path.{_≡_, refl, sym, ap}
+use mathlib.Core.Path.{_≡_, refl, ap}
 use mathlib.Core.Logic.{_⊎_, inl, inr, _↔_, ⊎-elim}
 use mathlib.Core.Bool.{Bool, true, false, cond}
 use mathlib.Core.List.{List, [], _∷_, _++_}
@@ -12,7 +12,6 @@ use Rattle.octets.specs.Numbers.{number, Capped, length-limit}
 use Rattle.scans.proofs.Caps.{capped-within, capped-beyond}
 use Rattle.ranges.specs.declared.Element.{Element}
 use Rattle.ranges.specs.declared.Element.the-variants.{Closed, Open, Suffix}
-use Rattle.ranges.specs.declared.Range.{Range}
 use Rattle.ranges.specs.Meaning.{Selects, Covers, Some, Each, begin, end, kept, resolved, InEntity}
 use Rattle.ranges.specs.Grammar.{Name, capped, sign?, positions, element-of, elements}
 

@@ -1,9 +1,9 @@
 -- The parts of a well-formed set: two for each element, one behind the other, each as far as bytes go on with it.
-use Prim.Native.Nat.{ℕ, zero, suc, _≤_, _<_}
+use Prim.Native.Nat.{ℕ, zero, suc, _<_}
 use native.Mathlib.Omega.{arith}
 use borrow.Author.Tests.{eqb-true}
 use mathlib.Core.Path.{_≡_, refl, sym, ap, ap₂, subst, _∙_}
-use mathlib.Core.Logic.{_⊎_, inl, inr}
+use mathlib.Core.Logic.{inl, inr}
 use mathlib.Core.Bool.{Bool, true, false, true≢false}
 use mathlib.Core.List.{List, [], _∷_, _++_, append-nil, append-assoc}
 use lib.Dec.{T, ltb, eqb}
@@ -13,9 +13,8 @@ use Rattle.grammar.specs.Endings.{stops}
 use Rattle.grammar.proofs.Derivative.{T-true, past-append, deriv-of}
 use Rattle.grammar.proofs.Order.{Whole, Laid, laid-behind, laid-append}
 use Rattle.grammar.proofs.Plain.{Plain, plain-byte, plain-seq, plain-star, plain-part}
-use Rattle.octets.specs.Bytes.{digit?, blank?}
+use Rattle.octets.specs.Bytes.{digit?}
 use Rattle.octets.specs.Classes.{DIGIT, BLANK}
-use Rattle.octets.proofs.Bytes.{told-apart}
 use Rattle.ranges.specs.Grammar.{Name, first, last, sign, suffix, MINUS, COMMA, blanks, element, others, unit, byte-ranges}
 use Rattle.ranges.specs.Grammar.{opens?, forward}
 use Rattle.ranges.specs.Parts.{ElementParts, InTurn, NoDigit}

@@ -4,7 +4,7 @@ use native.Mathlib.Omega.{arith}
 use native.Mathlib.Numerals.{add-one}
 use borrow.Author.Tests.{eq-eqb, ne-eqb, eqb-true, lt-ltb, le-ltb, ltb-true, ltb-false}
 use mathlib.Core.Path.{_≡_, refl, sym, ap, ap₂, subst, _∙_}
-use mathlib.Core.Bool.{Bool, true, false, cond, _&&_, true≢false}
+use mathlib.Core.Bool.{Bool, true, false, cond, true≢false}
 use mathlib.Core.List.{List, [], _∷_, _++_, append-nil, append-assoc}
 use mathlib.Core.Option.{none, some}
 use lib.Dec.{ltb, eqb}
@@ -12,7 +12,6 @@ use lib.ListN.{length, getD, length-append}
 use Rattle.grammar.specs.Grammar.{Part, Grammar, void, empty, byte, _⨾_, star, plus, part, rest, past}
 use Rattle.grammar.specs.helpers.Derivative.{deriv}
 use Rattle.grammar.specs.Reading.{refused, crowded, unfit}
-use Rattle.grammar.specs.Endings.{ended}
 use Rattle.grammar.specs.helpers.Checks.{ahead}
 use Rattle.grammar.specs.helpers.Judge.{header, finished}
 use Rattle.grammar.specs.helpers.Scans.{slice, from}
@@ -38,7 +37,7 @@ use Rattle.ranges.specs.declared.Element.the-variants.{Closed, Open, Suf
 use Rattle.ranges.specs.declared.Step.{Step}
 use Rattle.ranges.specs.declared.Step.the-variants.{Passed, Stopped}
 use Rattle.ranges.specs.Grammar.{Name, first, last, sign, suffix, MINUS, COMMA, blanks, element, others, unit, capped, positions, element-of, elements}
-use Rattle.ranges.specs.Grammar.{opens?, opened, last?, backward, forward, element-limit, rules}
+use Rattle.ranges.specs.Grammar.{opens?, opened, last?, forward, element-limit, rules}
 use Rattle.ranges.specs.helpers.Scan.{left, DigitsAt, FoundBefore, Found, ElementAt, Read, StepAt}
 use Rattle.ranges.proofs.Limits.{opened-one, opened-same, within-limit, beyond-limit, fits, not-ended, compared}
 

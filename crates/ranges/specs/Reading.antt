@@ -1,8 +1,8 @@
 -- Document 01's numbers and document 02's values for each case of the answer.
-use Prim.Native.Nat.{ℕ, zero, suc}
+use Prim.Native.Nat.{ℕ}
 use mathlib.Core.Path.{_≡_}
 use mathlib.Core.Bool.{cond}
-use mathlib.Core.List.{List, [], _∷_}
+use mathlib.Core.List.{List, []}
 use lib.Dec.{leb}
 use lib.ListN.{take}
 use Rattle.grammar.specs.Refusals.{OUT_OF_RANGE}
@@ -10,6 +10,7 @@ use Rattle.grammar.specs.Reading as G
 use Rattle.grammar.specs.Reading.{Verdict}
 use Rattle.grammar.specs.helpers.Judge.{header}
 use Rattle.octets.specs.Numbers.{length-limit}
+use Rattle.octets.specs.Tables.{padded}
 use Rattle.ranges.specs.declared.Range.{Range}
 use Rattle.ranges.specs.declared.Outcome.{Outcome}
 use Rattle.ranges.specs.declared.Outcome.the-variants.{Satisfiable, Unsatisfiable, Refused}
@@ -33,14 +34,8 @@ verdict r = outcome-verdict (r .outcome) (r .ranges)
 abbrev pub unused : Range
 unused = record { first = 0; last = 0 }
 
--- so many entries: the ranges, then unused ones
-abbrev pub padded : ℕ → List Range → List Range
-padded zero rs = []
-padded (suc n) [] = unused ∷ padded n []
-padded (suc n) (r ∷ rs) = r ∷ padded n rs
-
 abbrev pub filled : List Range → List Range
-filled rs = padded element-limit rs
+filled rs = padded unused element-limit rs
 
 -- the table beside an answer: all of it is unused where there are no ranges
 abbrev pub table-of : Verdict Ranges → List Range

@@ -1,7 +1,7 @@
 -- `ranges::begin_of` meets its contract: a suffix that is longer than the entity begins with it.
 use native.Mathlib.Omega.{arith}
 use borrow.Author.Needs.{needs}
-use mathlib.Core.Path.{sym, ap, _∙_}
+use mathlib.Core.Path.{sym, ap}
 use Rattle.ranges.specs.Meaning.{begin}
 use Rattle.ranges.proofs.begin_of.Statement.{statement}
 use Rattle.ranges.proofs.begin_of.Tie as tie

@@ -1,7 +1,7 @@
 -- `ranges::end_of` meets its contract: a last position beyond the end is cut.
 use native.Mathlib.Omega.{arith}
 use borrow.Author.Needs.{needs}
-use mathlib.Core.Path.{sym, ap, _∙_}
+use mathlib.Core.Path.{ap}
 use Rattle.ranges.specs.Meaning.{end}
 use Rattle.ranges.proofs.end_of.Statement.{statement}
 use Rattle.ranges.proofs.end_of.Tie as tie

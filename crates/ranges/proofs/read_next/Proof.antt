@@ -2,14 +2,14 @@
 use Prim.Native.Nat.{ℕ, _<_, _≤_}
 use native.Mathlib.Omega.{arith}
 use borrow.Author.Needs.{needs}
-use mathlib.Core.Path.{_≡_, sym, ap, subst, _∙_}
+use mathlib.Core.Path.{_≡_, sym, subst, _∙_}
 use mathlib.Core.List.{List}
 use lib.ListN.{length}
-use Rattle.grammar.specs.Grammar.{Grammar, _⨾_}
+use Rattle.grammar.specs.Grammar.{Grammar}
 use Rattle.octets.specs.Bytes.{blank?}
 use Rattle.octets.proofs.Tables.{blank-bits}
 use Rattle.ranges.specs.declared.Element.{Element}
-use Rattle.ranges.specs.Grammar.{Name, element, others}
+use Rattle.ranges.specs.Grammar.{Name, others}
 use Rattle.ranges.specs.helpers.Scan.{FoundBefore, Found, ElementAt, StepAt}
 use Rattle.ranges.proofs.Scan.{left-none, left-some, steps-on, comma-missing, comma-not, element-begins, element-behind}
 use Rattle.ranges.proofs.read_next.Statement.{statement}

@@ -5,7 +5,7 @@ use mathlib.Core.Bool.{false}
 use mathlib.Core.List.{List, [], _∷_, _++_}
 use lib.ListN.{length}
 use Rattle.grammar.specs.Grammar.{Part, Grammar, _⨾_}
-use Rattle.grammar.specs.Reading.{value-limit, refused}
+use Rattle.grammar.specs.Reading.{refused}
 use Rattle.grammar.specs.Refusals.{MALFORMED}
 use Rattle.grammar.specs.Endings.{ended}
 use Rattle.grammar.specs.helpers.Judge.{header}
