@@ -23,7 +23,8 @@ static void answer(const char *entity, const char *value)
     size_t i;
     printf("Range: %s\n", value);
     if (r.number != 0) {
-        /* RFC 2616 14.35.1: a server ignores such a header and sends the entity whole. */
+        /* RFC 2616 14.35.1: a set that is malformed is ignored, and the entity is sent whole. A server may do so with any other
+         * set, and does so here with one of too many ranges. */
         printf("ignored: number %u at %lu\n", (unsigned)r.number, (unsigned long)r.place);
         printf("200 OK\n%s\n", entity);
     } else if (r.unsatisfiable) {

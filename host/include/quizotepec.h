@@ -25,7 +25,7 @@ extern "C" {
 
 enum {
     /* Document 01's refusal numbers. Malformed; place: the length of the longest beginning that some continuation
-     * completes. */
+     * completes; of a last byte position below its first, its last digit. */
     QZ_MALFORMED = 1,
     /* Number above its limit; place: the digit that passes it. */
     QZ_NUMBER_ABOVE_LIMIT = 2,
@@ -181,8 +181,9 @@ enum {
 };
 
 /* Byte ranges: `bytes=`, then elements first-last, first- or -size with blanks around their commas only. They are
- * resolved against an entity of so many bytes, at most 2^63 - 1: a last beyond its end is cut, a longer suffix is the
- * whole entity, an empty range is left out. */
+ * resolved against an entity of so many bytes: a last beyond its end is cut, a longer suffix is the whole entity, an
+ * empty range is left out. Where none is left, `number` and `count` are 0 and `unsatisfiable` is set. An entity of
+ * more than 2^63 - 1 bytes is refused, before all else. */
 QzRanges qz_ranges_read(const uint8_t *s, size_t s_len, uint64_t entity_length);
 
 /* Writes the Content-Range value of one range, as `bytes 0-499/1234`, at most 65 bytes: first is at most last, last is

@@ -37,7 +37,8 @@ pub const RANGES: usize = 16;
 const UNUSED: QzRange = QzRange { first: 0, last: 0 };
 
 // Byte ranges: `bytes=`, then elements first-last, first- or -size with blanks around their commas only. They are resolved against an
-// entity of so many bytes, at most 2^63 - 1: a last beyond its end is cut, a longer suffix is the whole entity, an empty range is left out.
+// entity of so many bytes: a last beyond its end is cut, a longer suffix is the whole entity, an empty range is left out. Where none is
+// left, `number` and `count` are 0 and `unsatisfiable` is set. An entity of more than 2^63 - 1 bytes is refused, before all else.
 #[no_mangle]
 pub extern "C" fn qz_ranges_read(s: &[u8], entity_length: u64) -> QzRanges
     ensures { λ r. ⌜ r ≡ ranges-fields (reading «entity_length» (now (s .entry))) ⌝ }

@@ -66,16 +66,11 @@ module _ {L A : Type 0} (j : Judgement L) (r : Rules L A) where
   pub nothing-judged : ((ps : List (Part L)) → j .misfit ps ≡ false) → (s : List ℕ) → header (judging j r s) s ≡ header r s
   nothing-judged = Follows.nothing-judged j r
 
-  -- "malformed at its last digit, whatever follows" (document 02, request (iv)): a value p that is malformed at its last byte stays so,
-  -- whatever u follows that does not go on with the part.
-  pub whatever-follows : (p u : List ℕ) (k : ℕ) → suc k ≡ length p → header (judging j r p) p ≡ refused MALFORMED k
-      → ((c : Part L) → stops j c u ≡ true) → length (p ++ u) ≤ value-limit → header (judging j r (p ++ u)) (p ++ u) ≡ refused MALFORMED k
-  whatever-follows = Follows.whatever-follows j r
-
-  -- And it was so before u came: the end of the value ends a part as another byte does.
-  pub refused-alone : (p u : List ℕ) (k : ℕ) → suc k ≡ length p → header (judging j r (p ++ u)) (p ++ u) ≡ refused MALFORMED k
-      → ((c : Part L) → stops j c u ≡ true) → length (p ++ u) ≤ value-limit → header (judging j r p) p ≡ refused MALFORMED k
-  refused-alone = Follows.refused-alone j r
+  -- "malformed at its last digit, whatever follows" (document 02, request (iv)): whether a value p is malformed at its last byte does not
+  -- depend on what follows, be it nothing or a text u that goes on with no part.
+  pub whatever-follows : (p u : List ℕ) (k : ℕ) → suc k ≡ length p → ((c : Part L) → stops j c u ≡ true) → length (p ++ u) ≤ value-limit
+      → (header (judging j r p) p ≡ refused MALFORMED k) ↔ (header (judging j r (p ++ u)) (p ++ u) ≡ refused MALFORMED k)
+  whatever-follows p u k e off = Follows.both-refused j r p u off k (omega arith)
 
 -- "argument outside its range", before anything is read: over any test of the argument and whatever reading answers within its range.
 pub asked-exactly : {A : Type 0} (InRange : Type 0) (Answer : Verdict A → Type 0) (test : Bool) → (test ≡ true → InRange)

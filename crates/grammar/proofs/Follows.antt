@@ -109,17 +109,8 @@ module _ {L A : Type 0} (j : Judgement L) (r : Rules L A) (p u : List ℕ) (off 
         (turn-both (live h) (judging j r p .limit i (held h)) i (judge (judging j r p) h t (suc i))
         (judge (judging j r (p ++ u)) h (t ++ u) (suc i)) (refused MALFORMED k) (same-refusal h t (suc i) (omega arith)))
 
-    both-refused : length (p ++ u) ≤ value-limit
+    pub both-refused : length (p ++ u) ≤ value-limit
         → (header (judging j r p) p ≡ refused MALFORMED k) ↔ (header (judging j r (p ++ u)) (p ++ u) ≡ refused MALFORMED k)
     both-refused short =
         rw (header-short (judging j r p) p (omega (arith, length-append p u)), header-short (judging j r (p ++ u)) (p ++ u) short)
         (same-refusal (r .grammar) p 0 (omega arith))
-
-module _ {L A : Type 0} (j : Judgement L) (r : Rules L A) (p u : List ℕ) (k : ℕ) where
-  pub whatever-follows : suc k ≡ length p → header (judging j r p) p ≡ refused MALFORMED k → ((c : Part L) → stops j c u ≡ true)
-      → length (p ++ u) ≤ value-limit → header (judging j r (p ++ u)) (p ++ u) ≡ refused MALFORMED k
-  whatever-follows e q off short = both-refused j r p u off k (omega arith) short .0 q
-
-  pub refused-alone : suc k ≡ length p → header (judging j r (p ++ u)) (p ++ u) ≡ refused MALFORMED k → ((c : Part L) → stops j c u ≡ true)
-      → length (p ++ u) ≤ value-limit → header (judging j r p) p ≡ refused MALFORMED k
-  refused-alone e q off short = both-refused j r p u off k (omega arith) short .1 q

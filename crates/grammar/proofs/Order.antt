@@ -97,6 +97,14 @@ module _ {L : Type 0} (j : Judgement L) where
         behind = x .behind;
       }
 
+  pub ends-inside : (i : ℕ) (t w : List ℕ) (qs : List (Part L)) (c : Part L) (rs : List (Part L)) → Laid i t w (qs ++ c ∷ rs)
+      → past (c .start) (c .text) ≤ past i t
+  ends-inside i t w qs c rs h =
+      let x = split-at i t w qs c rs h in
+      let e = ap (past i) (x .is) ∙ past-append i (x .p) (c .text ++ x .u) ∙ past-append (past i (x .p)) (c .text) (x .u)
+      ∙ ap (λ (m : ℕ). past (past m (c .text)) (x .u)) (x .at) in
+      omega (arith, e, past-length (past (c .start) (c .text)) (x .u))
+
   -- ## The parts before a place
 
   abbrev cut : ℕ → Part L → Part L
@@ -126,7 +134,7 @@ module _ {L : Type 0} (j : Judgement L) where
       ∙ none-before n (past (c .start) (c .text)) (h .1) w ps (h .5) (omega (arith, a, h .3, past-length (c .start) (c .text)))
 
   -- a part with a byte is the last before its end
-  last-before : (i : ℕ) (t w : List ℕ) (qs : List (Part L)) (c : Part L) (rs : List (Part L)) → Laid i t w (qs ++ c ∷ rs) → 0 < length (c .text)
+  pub last-before : (i : ℕ) (t w : List ℕ) (qs : List (Part L)) (c : Part L) (rs : List (Part L)) → Laid i t w (qs ++ c ∷ rs) → 0 < length (c .text)
       → parts-before (past (c .start) (c .text)) (qs ++ c ∷ rs) ≡ qs ++ c ∷ []
   last-before i t w qs c rs h long =
       let x = split-at i t w qs c rs h in
@@ -188,9 +196,11 @@ both-true false y e = absurd (true≢false (sym e))
 
 module _ {L A : Type 0} (j : Judgement L) (r : Rules L A) (fresh : T (fresh? (r .grammar))) (steady : Steady (r .grammar))
     (s : List ℕ) (ps : List (Part L)) (p : Parses (r .grammar) 0 s ps) (laid : Laid j 0 s [] ps) where
-  -- each part, once it has ended, fits those before it
-  abbrev pub Fits : Type 0
-  Fits = (qs : List (Part L)) (c : Part L) (rs : List (Part L)) → ps ≡ qs ++ c ∷ rs → 0 < length (c .text) → j .misfit (qs ++ c ∷ []) ≡ false
+  -- each part that ends at or before the place n fits those before it, once it has ended
+  abbrev pub Fits : ℕ → Type 0
+  Fits n =
+      (qs : List (Part L)) (c : Part L) (rs : List (Part L)) → ps ≡ qs ++ c ∷ rs → 0 < length (c .text) → past (c .start) (c .text) ≤ n
+      → j .misfit (qs ++ c ∷ []) ≡ false
 
   abbrev q : Rules L A
   q = judging j r s
@@ -220,23 +230,14 @@ module _ {L A : Type 0} (j : Judgement L) (r : Rules L A) (fresh : T (fresh? (r 
     )
 
   -- where no byte passes it
-  pub fits-of : ((k : ℕ) → k ≤ length s → Passes q s unfit k → ⊥) → Fits
-  fits-of never qs c rs e some-byte = go (j .misfit (qs ++ c ∷ [])) refl
+  pub fits-of : ((k : ℕ) → k ≤ length s → Passes q s unfit k → ⊥) → Fits (length s)
+  fits-of never qs c rs e some-byte inside = go (j .misfit (qs ++ c ∷ [])) refl
     where
       n : ℕ
       n = past (c .start) (c .text)
 
       x : Split j 0 s [] qs c rs
       x = split-at j 0 s [] qs c rs (subst (Laid j 0 s []) e laid)
-
-      sizes : (length s ≡ length (x .p) + (length (c .text) + length (x .u))) × (length (x .p) ≡ c .start)
-      sizes = (
-        ap length (x .is) ∙ length-append (x .p) (c .text ++ x .u) ∙ ap (λ (m : ℕ). length (x .p) + m) (length-append (c .text) (x .u)),
-        omega (arith, past-length 0 (x .p), x .at),
-      )
-
-      inside : n ≤ length s
-      inside = omega (arith, past-length (c .start) (c .text), sizes .0, sizes .1)
 
       k : ℕ
       k = n - 1
@@ -246,7 +247,7 @@ module _ {L A : Type 0} (j : Judgement L) (r : Rules L A) (fresh : T (fresh? (r 
 
       follows : drop n s ≡ x .u ++ []
       follows =
-          let f : n ≡ length (x .p ++ c .text) = omega (arith, past-length (c .start) (c .text), sizes .1, length-append (x .p) (c .text)) in
+          let f : n ≡ length (x .p ++ c .text) = omega (arith, past-length (c .start) (c .text), past-length 0 (x .p), x .at, length-append (x .p) (c .text)) in
           ap₂ (λ (m : ℕ) (t : List ℕ). drop m t) f (x .is ∙ sym (append-assoc (x .p) (c .text) (x .u)))
           ∙ drop-append-seam (x .p ++ c .text) (x .u) ∙ sym (append-nil (x .u))
 
@@ -266,8 +267,8 @@ module _ {L A : Type 0} (j : Judgement L) (r : Rules L A) (fresh : T (fresh? (r 
       go true f = absurd (never (suc k) (omega (arith, next, inside)) (passes f))
       go false f = refl
 
-  -- where each part fits
-  module _ (other : (k : ℕ) (rs : List (Part L)) → r .limit k rs ≡ some unfit → ⊥) (fits : Fits) where
+  -- up to the place n each part fits
+  module _ (other : (k : ℕ) (rs : List (Part L)) → r .limit k rs ≡ some unfit → ⊥) (n : ℕ) (upto : n ≤ length s) (fits : Fits n) where
     judged-bad : (k : ℕ) (rs : List (Part L)) → q .limit k rs ≡ some unfit → (ended j s k rs && j .misfit rs) ≡ true
     judged-bad k rs e = go (ended j s k rs && j .misfit rs) refl e
       where
@@ -275,7 +276,8 @@ module _ {L A : Type 0} (j : Judgement L) (r : Rules L A) (fresh : T (fresh? (r 
         go true f g = refl
         go false f g = absurd (other k rs g)
 
-    unfit-last : (k : ℕ) → k < length s → LastBefore j (suc k) ps → (ended j s k (parts-before (suc k) ps) && j .misfit (parts-before (suc k) ps)) ≡ true → ⊥
+    unfit-last : (k : ℕ) → k < n → LastBefore j (suc k) ps
+        → (ended j s k (parts-before (suc k) ps) && j .misfit (parts-before (suc k) ps)) ≡ true → ⊥
     unfit-last k inside w bad = go (ltb (suc k) (past (one .start) (one .text))) refl
       where
         one : Part L
@@ -318,13 +320,13 @@ module _ {L A : Type 0} (j : Judgement L) (r : Rules L A) (fresh : T (fresh? (r 
             let whole = cut-whole j (suc k) one h in
             let long = eqb-true (past (one .start) (take m (one .text))) (suc k) (at-end .0) in
             let same : past (one .start) (take m (one .text)) ≡ past (one .start) (one .text) = ap (λ (c : Part L). past (c .start) (c .text)) whole in
-            let fine = fits (w .front) one (w .back) (w .all) (omega (arith, b, w .begun, long, same)) in
+            let fine = fits (w .front) one (w .back) (w .all) (omega (arith, b, w .begun, long, same)) (omega arith) in
             true≢false (sym (has-ended .1) ∙ ap (λ (c : Part L). j .misfit (w .front ++ c ∷ [])) whole ∙ fine)
 
-    pub never-unfit : (k : ℕ) → k ≤ length s → Passes q s unfit k → ⊥
+    pub never-unfit : (k : ℕ) → k ≤ n → Passes q s unfit k → ⊥
     never-unfit zero h v = v
     never-unfit (suc k) h v =
-        let bad = judged-bad k (parts-before (suc k) ps) (passed-with unfit k h v) in
+        let bad = judged-bad k (parts-before (suc k) ps) (passed-with unfit k (omega arith) v) in
         ⊎-elim
         (λ e. true≢false (sym bad ∙ ap (λ (rs : List (Part L)). ended j s k rs && j .misfit rs) e))
         (λ w. unfit-last k (omega arith) w bad)

@@ -15,8 +15,8 @@ use Rattle.grammar.specs.Refusals.{TOO_MANY_PARAMETERS, REPEATED_ATTRIBU
 abbrev pub value-limit : ℕ
 value-limit = 8192
 
--- The limits that a byte breaks: a number above its limit, more than 16 parameters, an attribute repeated, a comment nested too deep. And,
--- where parts are judged once they have ended (Endings.antt), a part that does not fit, which is malformed.
+-- The limits that a byte breaks: a number above its limit, more than 16 parameters or byte ranges, an attribute repeated, a comment nested
+-- too deep. And, where parts are judged once they have ended (Endings.antt), a part that does not fit, which is malformed.
 pub data Limit : Type 0 where
   above crowded repeated deep unfit : Limit
 

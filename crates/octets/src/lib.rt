@@ -14,7 +14,8 @@ pub const VALUE_LIMIT: usize = 8192;
 // The largest length of an entity, 2^63 - 1; in byte ranges it stands for larger numbers.
 pub const LENGTH_LIMIT: u64 = 9223372036854775807;
 
-// Document 01's refusal numbers. Malformed; place: the length of the longest beginning that some continuation completes.
+// Document 01's refusal numbers. Malformed; place: the length of the longest beginning that some continuation completes; of a last byte
+// position below its first, its last digit.
 pub const MALFORMED: u8 = 1;
 
 // Number above its limit; place: the digit that passes it.

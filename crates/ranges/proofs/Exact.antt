@@ -16,10 +16,10 @@ use Rattle.grammar.proofs.Derivative.{past-append}
 use Rattle.grammar.proofs.Deterministic.{deterministic?, deterministic-steady}
 use Rattle.grammar.proofs.Exact.{Steady}
 use Rattle.grammar.proofs.Longest.{past-length}
-use Rattle.grammar.proofs.Order.{Laid, passed-with, passes-with, fits-of, never-unfit}
+use Rattle.grammar.proofs.Order.{Laid, ends-inside, passed-with, passes-with, Fits, fits-of, never-unfit}
 use Rattle.octets.specs.Bytes.{digit?, blank?}
 use Rattle.ranges.specs.Meaning.{Each, Forward}
-use Rattle.ranges.specs.Grammar.{Name, opens?, last?, capped, positions, element-of, elements, opened, backward, ends-backward}
+use Rattle.ranges.specs.Grammar.{Name, last, opens?, last?, capped, positions, element-of, elements, opened, backward, ends-backward}
 use Rattle.ranges.specs.Grammar.{byte-ranges, element-limit, limit, forward, plain-rules, rules}
 use Rattle.ranges.specs.Parts.{ElementParts, InTurn}
 use Rattle.ranges.proofs.Limits.{backward-last}
@@ -72,10 +72,10 @@ ends-behind : (a b c : Part Name) (ps : List (Part Name)) → ends-backward (a �
 ends-behind a b c [] = refl
 ends-behind a b c (d ∷ ps) = refl
 
-same-tail : {A : Type 0} (x y : A) (xs ys : List A) → x ∷ xs ≡ y ∷ ys → (x ≡ y) × (xs ≡ ys)
+pub same-tail : {A : Type 0} (x y : A) (xs ys : List A) → x ∷ xs ≡ y ∷ ys → (x ≡ y) × (xs ≡ ys)
 same-tail x y xs ys e = (cc, cc)
 
-no-tail : {A : Type 0} (x : A) (xs ys : List A) → [] ≡ xs ++ x ∷ ys → ⊥
+pub no-tail : {A : Type 0} (x : A) (xs ys : List A) → [] ≡ xs ++ x ∷ ys → ⊥
 no-tail x [] ys e = let z : _≡_ {A = ℕ} 0 1 = cc in omega arith
 no-tail x (y ∷ xs) ys e = let z : _≡_ {A = ℕ} 0 1 = cc in omega arith
 
@@ -167,14 +167,16 @@ module _ (n : ℕ) (s : List ℕ) (ps : List (Part Name)) (p : Parses byte-range
   abbrev whole : Standing 0 s [] ps
   whole = standing s ps p
 
-  steady : Steady byte-ranges
+  pub steady : Steady byte-ranges
   steady = deterministic-steady byte-ranges tt one-way
 
   -- no limit is passed
   module _ (unpassed : (k : ℕ) (l : Limit) → k ≤ length s → Passes (rules n s) s l k → ⊥) where
     pub all-forward : Each Forward (elements capped ps)
     all-forward =
-        fit-forward [] ps (whole .turns) (fits-of forward (plain-rules n) tt steady s ps p (whole .laid) (λ k h v. unpassed k unfit h v))
+        fit-forward [] ps (whole .turns) (λ qs c rs e h.
+        fits-of forward (plain-rules n) tt steady s ps p (whole .laid) (λ k a v. unpassed k unfit a v) qs c rs e h
+        (omega (arith, ends-inside forward 0 s [] qs c rs (subst (Laid forward 0 s []) e (whole .laid)), past-length 0 s)))
 
     pub all-few : length (elements capped ps) ≤ element-limit
     all-few = go (length s) refl (ltb element-limit (opened ps)) refl
@@ -196,17 +198,15 @@ module _ (n : ℕ) (s : List ℕ) (ps : List (Part Name)) (p : Parses byte-range
             absurd (unpassed (suc k) crowded (omega (arith, e))
             (passes-with forward (plain-rules n) tt steady s ps p (whole .laid) crowded k (omega (arith, e)) (rw (well, all, f))))
 
-  -- few elements, all of them forward
-  module _ (few : length (elements capped ps) ≤ element-limit) (all : Each Forward (elements capped ps)) where
-    pub none-passed : (k : ℕ) (l : Limit) → k ≤ length s → Passes (rules n s) s l k → ⊥
+  -- few elements, and up to the place m none that ends backward
+  module _ (few : length (elements capped ps) ≤ element-limit) (m : ℕ) (upto : m ≤ length s)
+      (fits : Fits forward (plain-rules n) tt steady s ps p (whole .laid) m) where
+    pub none-passed : (k : ℕ) (l : Limit) → k ≤ m → Passes (rules n s) s l k → ⊥
     none-passed zero l h v = v
     none-passed (suc k) l h v =
         go (ended forward s k (parts-before (suc k) ps) && ends-backward (parts-before (suc k) ps)) refl
-        (passed-with forward (plain-rules n) tt steady s ps p (whole .laid) l k h v)
+        (passed-with forward (plain-rules n) tt steady s ps p (whole .laid) l k (omega arith) v)
       where
-        here : List (Part Name)
-        here = parts-before (suc k) ps
-
         other : (m : ℕ) (rs : List (Part Name)) → limit m rs ≡ some unfit → ⊥
         other m rs e = no (ltb element-limit (opened rs)) e
           where
@@ -215,7 +215,7 @@ module _ (n : ℕ) (s : List ℕ) (ps : List (Part Name)) (p : Parses byte-range
             no false f = let z : _≡_ {A = ℕ} 0 1 = cc in omega arith
 
         never : Passes (rules n s) s unfit (suc k) → ⊥
-        never = never-unfit forward (plain-rules n) tt steady s ps p (whole .laid) other (forward-fit ps (whole .turns) all) (suc k) h
+        never = never-unfit forward (plain-rules n) tt steady s ps p (whole .laid) other m upto fits (suc k) h
 
         few-here : ltb element-limit (opened (parts-before (suc k) ps)) ≡ false
         few-here =
@@ -223,9 +223,13 @@ module _ (n : ℕ) (s : List ℕ) (ps : List (Part Name)) (p : Parses byte-range
 
         go : (x : Bool) → (ended forward s k (parts-before (suc k) ps) && ends-backward (parts-before (suc k) ps)) ≡ x
             → cond x (some unfit) (limit k (parts-before (suc k) ps)) ≡ some l → ⊥
-        go true f e = never (passes-with forward (plain-rules n) tt steady s ps p (whole .laid) unfit k h (rw f))
-        go false f e = let z : _≡_ {A = ℕ} 0 1 = ap length-of (sym (rw few-here at e)) in omega arith
+        go true f e = never (passes-with forward (plain-rules n) tt steady s ps p (whole .laid) unfit k (omega arith) (rw f))
+        go false f e = let z : _≡_ {A = ℕ} 0 1 = ap found (sym (rw few-here at e)) in omega arith
           where
-            length-of : Option Limit → ℕ
-            length-of none = 1
-            length-of (some x) = 0
+            found : Option Limit → ℕ
+            found none = 1
+            found (some x) = 0
+
+  -- all of them
+  pub all-fit : Each Forward (elements capped ps) → Fits forward (plain-rules n) tt steady s ps p (whole .laid) (length s)
+  all-fit all qs c rs e h inside = forward-fit ps (whole .turns) all qs c rs e h

@@ -38,7 +38,7 @@ resolves :
 unfolding lower digit? blank?
 resolves = (refl, refl, refl, refl, refl, refl, refl, refl, refl)
 
--- "none left is `unsatisfiable`"
+-- "none left is "unsatisfiable""
 none-left :
     (read "bytes=20000-" ≡ value unsatisfiable)
     × (read "bytes=-0" ≡ value unsatisfiable)
@@ -110,10 +110,10 @@ unfolding lower digit? blank?
 seventeenth = (refl, refl, refl, refl, refl)
 
 -- "An entity length above it is refusal 9, first of all."
-in-order :
+length-first :
     (reading 9223372036854775808 (bytes "bytes=5-3") ≡ refused OUT_OF_RANGE 0)
     × (reading 9223372036854775808 (replicate 8193 (code "0")) ≡ refused OUT_OF_RANGE 0)
     × (reading 9223372036854775807 (replicate 8193 (code "0")) ≡ refused VALUE_TOO_LONG 8192)
     × (reading 9223372036854775807 (bytes "bytes=0-") ≡ these (to 0 9223372036854775806 ∷ []))
 unfolding lower digit? blank?
-in-order = (refl, refl, refl, refl)
+length-first = (refl, refl, refl, refl)

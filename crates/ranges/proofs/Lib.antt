@@ -5,5 +5,6 @@ pub mod Filled
 pub mod Meaning
 pub mod Parts
 pub mod Exact
+pub mod Backward
 pub mod Demands
 pub mod Examples

@@ -12,7 +12,7 @@ use Rattle.octets.specs.Numbers.{number, Capped, length-limit}
 use Rattle.scans.proofs.Caps.{capped-within, capped-beyond}
 use Rattle.ranges.specs.declared.Element.{Element}
 use Rattle.ranges.specs.declared.Element.the-variants.{Closed, Open, Suffix}
-use Rattle.ranges.specs.Meaning.{Selects, Covers, Some, Each, begin, end, kept, resolved, InEntity}
+use Rattle.ranges.specs.Meaning.{Selects, Covers, Some, Each, begin, end, kept, resolved, InEntity, Served, done, left-out, served}
 use Rattle.ranges.specs.Grammar.{Name, capped, sign?, positions, element-of, elements}
 
 -- ## Lists
@@ -145,3 +145,32 @@ pub each-in : (n : ℕ) (xs : List Element) → Each (InEntity n) (resolved n xs
 each-in n [] = tt
 each-in n (x ∷ xs) =
     each-append (InEntity n) (kept (begin n x) (end n x)) (resolved n xs) (kept-in n (begin n x) (end n x) (end-in n x)) (each-in n xs)
+
+-- each element by itself, in their order
+pub serves : (n : ℕ) → n ≤ length-limit → (ps : List (Part Name)) → Served n (elements number ps) (resolved n (elements capped ps))
+serves n small [] = done
+serves n small (a ∷ []) = done
+serves n small (a ∷ b ∷ ps) = go (ltb (begin n x) (end n x)) refl (serves n small ps)
+  where
+    x : Element
+    x = element-of capped a b
+
+    same : (p : ℕ) → ((begin n x ≤ p) × (p < end n x)) ↔ Selects n (element-of number a b) p
+    same p = (
+      λ h. element-alike n p small a b .0 (spans n p x .0 h),
+      λ h. spans n p x .1 (element-alike n p small a b .1 h),
+    )
+
+    go : (y : Bool) → ltb (begin n x) (end n x) ≡ y → Served n (elements number ps) (resolved n (elements capped ps))
+        → Served n (element-of number a b ∷ elements number ps)
+        (cond y (record { first = begin n x; last = end n x - 1 } ∷ []) [] ++ resolved n (elements capped ps))
+    go true f w =
+        let h = ltb-true (begin n x) (end n x) f in
+        served {r = record { first = begin n x; last = end n x - 1 }} (omega arith, omega (arith, end-in n x)) (λ p. (
+          λ c. same p .0 (c .0, omega (arith, c .1)),
+          λ z. let s = same p .1 z in (s .0, omega (arith, s .1)),
+        )) w
+    go false f w = left-out (λ p z. none p (same p .1 z)) w
+      where
+        none : (p : ℕ) → (begin n x ≤ p) × (p < end n x) → ⊥
+        none p s = omega (arith, s .0, s .1, ltb-false (begin n x) (end n x) f)

@@ -5,7 +5,7 @@ use borrow.Author.Tests.{eqb-true}
 use mathlib.Core.Path.{_≡_, refl, sym, ap, ap₂, subst, _∙_}
 use mathlib.Core.Logic.{inl, inr}
 use mathlib.Core.Bool.{Bool, true, false, true≢false}
-use mathlib.Core.List.{List, [], _∷_, _++_, append-nil, append-assoc}
+use mathlib.Core.List.{List, [], _∷_, _++_, append-nil, append-assoc, cons≢nil}
 use lib.Dec.{T, ltb, eqb}
 use lib.ListN.{length, getD}
 use Rattle.grammar.specs.Grammar.{Part, Grammar, byte, _⨾_, star, plus, part, spell, bytes?, T-left, T-right, fold, Parses, Many, none, more, past}
@@ -16,8 +16,8 @@ use Rattle.grammar.proofs.Plain.{Plain, plain-byte, plain-seq, plain-star, plai
 use Rattle.octets.specs.Bytes.{digit?}
 use Rattle.octets.specs.Classes.{DIGIT, BLANK}
 use Rattle.ranges.specs.Grammar.{Name, first, last, sign, suffix, MINUS, COMMA, blanks, element, others, unit, byte-ranges}
-use Rattle.ranges.specs.Grammar.{opens?, forward}
-use Rattle.ranges.specs.Parts.{ElementParts, InTurn, NoDigit}
+use Rattle.ranges.specs.Grammar.{opens?, forward, NoDigit}
+use Rattle.ranges.specs.Parts.{ElementParts, InTurn}
 use Rattle.ranges.proofs.Scan.{minus-no-digit, others-apart}
 
 -- ## Texts without parts
@@ -89,10 +89,11 @@ number-whole l i t u goes d n = record { inner = λ m a b. goes (getD t m 0) ∙
 
 -- ## An element
 
--- two parts, of which the first has a byte
+-- two parts, of which the first has a byte, and the second ends where the text does
 abbrev Pair : ℕ → List ℕ → List ℕ → List (Part Name) → Type 0
 Pair i t w ps =
     (a : Part Name) × (b : Part Name) × (ps ≡ a ∷ b ∷ []) × ElementParts a b × (0 < length (a .text)) × Laid forward i t w (a ∷ b ∷ [])
+    × (past (b .start) (b .text) ≡ past i t)
 
 minus-first : (x : ℕ) (t u : List ℕ) → t ≡ x ∷ [] → T (MINUS .has x) → (w : List ℕ) → NoDigit ((t ++ u) ++ w)
 minus-first x t u e h w = subst (λ (v : List ℕ). NoDigit ((v ++ u) ++ w)) (sym e) (ap digit? (eqb-true x 45 (T-true (eqb x 45) h)) ∙ minus-no-digit)
@@ -127,6 +128,8 @@ positions-pair i t w ps n p =
           tt,
         ),
       ),
+      sym (past-append (past i (p .0)) (m .0) (m .1)) ∙ ap (past (past i (p .0))) (sym (m .4)) ∙ sym (past-append i (p .0) (p .1))
+          ∙ ap (past i) (sym (p .4)),
     )
 
 suffix-pair : (i : ℕ) (t w : List ℕ) (ps : List (Part Name)) → NoDigit w
@@ -156,6 +159,7 @@ suffix-pair i t w ps n p =
           tt,
         ),
       ),
+      sym (past-append i (p .0) (p .1)) ∙ ap (past i) (sym (p .4)),
     )
   where
     sign-stops : (u : List ℕ) → stops forward (record { label = sign; start = i; text = p .0 }) u ≡ true
@@ -173,9 +177,16 @@ abbrev pub Opened : List (Part Name) → Type 0
 Opened [] = Unit
 Opened (c ∷ ps) = (opens? (c .label) ≡ true → 0 < length (c .text)) × Opened ps
 
+-- the last part ends at the place e
+abbrev pub Ending : ℕ → List (Part Name) → Type 0
+Ending e [] = Unit
+Ending e (c ∷ []) = past (c .start) (c .text) ≡ e
+Ending e (c ∷ d ∷ ps) = Ending e (d ∷ ps)
+
 pub record Standing (i : ℕ) (t w : List ℕ) (ps : List (Part Name)) : Type 0 where
   pub turns : InTurn ps
   pub opening : Opened ps
+  pub ending : Ending (past i t) ps
   pub laid : Laid forward i t w ps
 
 joins-element : Grammar Name
@@ -190,12 +201,20 @@ others-no-digit i (b ∷ u) w rs p n = go (digit? b) refl
     go true d = absurd (subst (λ (g : Grammar Name). Parses g (suc i) u rs) (others-apart i b d) (deriv-of others i b u rs p))
     go false d = refl
 
-pair-standing : (i : ℕ) (t u w : List ℕ) (ps qs : List (Part Name)) → Pair i t (u ++ w) ps → Standing (past i t) u w qs
-    → Standing i (t ++ u) w (ps ++ qs)
-pair-standing i t u w ps qs x s =
+-- behind a part that ends before the text u
+pair-ending : (i : ℕ) (t u : List ℕ) (a b : Part Name) (qs : List (Part Name)) → past (b .start) (b .text) ≡ past i t
+    → Ending (past (past i t) u) qs → (qs ≡ [] → u ≡ []) → Ending (past (past i t) u) (a ∷ b ∷ qs)
+pair-ending i t u a b [] e k f = e ∙ ap (past (past i t)) (sym (f refl))
+pair-ending i t u a b (q ∷ qs) e k f = k
+
+pair-standing : (i : ℕ) (t u w : List ℕ) (ps qs : List (Part Name)) → Pair i t (u ++ w) ps → (qs ≡ [] → u ≡ [])
+    → Standing (past i t) u w qs → Standing i (t ++ u) w (ps ++ qs)
+pair-standing i t u w ps qs x alone s =
     subst (λ (rs : List (Part Name)). Standing i (t ++ u) w (rs ++ qs)) (sym (x .2)) (record {
       turns = (x .3, s .turns);
       opening = (λ o. x .4, (λ o. absurd (closes (x .3) o), s .opening));
+      ending = subst (λ (e : ℕ). Ending e (x .0 ∷ x .1 ∷ qs)) (sym (past-append i t u))
+          (pair-ending i t u (x .0) (x .1) qs (x .6) (s .ending) alone);
       laid = laid-append forward i t u w (x .0 ∷ x .1 ∷ []) qs (x .5) (s .laid);
     })
   where
@@ -203,9 +222,20 @@ pair-standing i t u w ps qs x s =
     closes (inl e) o = true≢false (sym o ∙ ap opens? (e .1))
     closes (inr e) o = true≢false (sym o ∙ ap opens? (e .1))
 
+-- without a part nothing is joined
+no-others : (i : ℕ) (u : List ℕ) (rs : List (Part Name)) → Many (Parses joins-element) i u rs → rs ≡ [] → u ≡ []
+unfolding joins-element
+no-others i u rs none e = refl
+no-others i s rs (more b t u ps qs p m) e =
+    let x = behind blanks (byte COMMA ⨾ blanks ⨾ element) plain-blanks i (b ∷ t) ps p in
+    let y = behind (byte COMMA) (blanks ⨾ element) (plain-byte COMMA) (past i (x .0)) (x .1) ps (x .3) in
+    let z = behind blanks element plain-blanks (past (past i (x .0)) (y .0)) (y .1) ps (y .3) in
+    let pair = element-pair (past (past (past i (x .0)) (y .0)) (z .0)) (z .1) [] ps tt (z .3) in
+    absurd (cons≢nil (sym (ap (λ (us : List (Part Name)). us ++ qs) (pair .2)) ∙ e))
+
 others-standing : (i : ℕ) (u w : List ℕ) (rs : List (Part Name)) → NoDigit w → Many (Parses joins-element) i u rs → Standing i u w rs
 unfolding joins-element
-others-standing i u w rs n none = record { turns = tt; opening = tt; laid = tt }
+others-standing i u w rs n none = record { turns = tt; opening = tt; ending = tt; laid = tt }
 others-standing i s w rs n (more b t u ps qs p m) =
     let after = others-no-digit (past (suc i) t) u w qs m n in
     let x = behind blanks (byte COMMA ⨾ blanks ⨾ element) plain-blanks i (b ∷ t) ps p in
@@ -216,8 +246,12 @@ others-standing i s w rs n (more b t u ps qs p m) =
     let mid = laid-behind forward (past i (x .0)) (y .0) (z .0 ++ z .1) (u ++ w) (e .0 ∷ e .1 ∷ []) deep in
     let all = laid-behind forward i (x .0) (y .0 ++ (z .0 ++ z .1)) (u ++ w) (e .0 ∷ e .1 ∷ []) mid in
     let text = x .2 ∙ ap (λ (v : List ℕ). x .0 ++ v) (y .2 ∙ ap (λ (v : List ℕ). y .0 ++ v) (z .2)) in
+    let place = e .6 ∙ sym (past-append (past (past i (x .0)) (y .0)) (z .0) (z .1)) ∙ ap (past (past (past i (x .0)) (y .0))) (sym (z .2))
+    ∙ sym (past-append (past i (x .0)) (y .0) (y .1)) ∙ ap (past (past i (x .0))) (sym (y .2)) ∙ sym (past-append i (x .0) (x .1))
+    ∙ ap (past i) (sym (x .2)) in
     pair-standing i (b ∷ t) u w ps qs
-    (e .0, e .1, e .2, e .3, e .4, subst (λ (v : List ℕ). Laid forward i v (u ++ w) (e .0 ∷ e .1 ∷ [])) (sym text) all)
+    (e .0, e .1, e .2, e .3, e .4, subst (λ (v : List ℕ). Laid forward i v (u ++ w) (e .0 ∷ e .1 ∷ [])) (sym text) all, place)
+    (no-others (past (suc i) t) u qs m)
     (others-standing (past (suc i) t) u w qs n m)
 
 pub standing : (s : List ℕ) (ps : List (Part Name)) → Parses byte-ranges 0 s ps → Standing 0 s [] ps
@@ -228,11 +262,13 @@ standing s ps p =
     let i = past 0 (x .0) in
     let after = others-no-digit (past i (q .0)) (q .1) [] (q .3) (q .7) tt in
     let e = element-pair i (q .0) (q .1 ++ []) (q .2) after (q .6) in
-    let w = pair-standing i (q .0) (q .1) [] (q .2) (q .3) e (others-standing (past i (q .0)) (q .1) [] (q .3) tt (q .7)) in
+    let w = pair-standing i (q .0) (q .1) [] (q .2) (q .3) e (no-others (past i (q .0)) (q .1) (q .3) (q .7)) (others-standing (past i (q .0)) (q .1) [] (q .3) tt (q .7)) in
+    let text = x .2 ∙ ap (λ (v : List ℕ). x .0 ++ v) (q .4) in
     subst (λ (rs : List (Part Name)). Standing 0 s [] rs) (sym (q .5))
     (record {
       turns = w .turns;
       opening = w .opening;
-      laid = subst (λ (v : List ℕ). Laid forward 0 v [] (q .2 ++ q .3)) (sym (x .2 ∙ ap (λ (v : List ℕ). x .0 ++ v) (q .4)))
+      ending = subst (λ (m : ℕ). Ending m (q .2 ++ q .3)) (sym (past-append 0 (x .0) (q .0 ++ q .1)) ∙ ap (past 0) (sym text)) (w .ending);
+      laid = subst (λ (v : List ℕ). Laid forward 0 v [] (q .2 ++ q .3)) (sym text)
           (laid-behind forward 0 (x .0) (q .0 ++ q .1) [] (q .2 ++ q .3) (w .laid));
     })

@@ -155,7 +155,7 @@ module _ (n : ℕ) (s : List ℕ) {xs : List Element} {i : ℕ} (x : ElementAt n
         };
         reads = h;
       };
-      forward = further;
+      further = further;
     }
 
   -- a part with which an element begins
@@ -437,7 +437,7 @@ module _ (n : ℕ) (s : List ℕ) {xs : List Element} {i : ℕ} (x : FoundBefore
 
 -- a step from e is one from an earlier place
 pub steps-on : (n : ℕ) (s : List ℕ) (xs : List Element) (i e : ℕ) (r : Step) → i ≤ e → StepAt n s xs e r → StepAt n s xs i r
-steps-on n s xs i e (Passed x f) a w = record { found = w .found; forward = omega (arith, w .forward) }
+steps-on n s xs i e (Passed x f) a w = record { found = w .found; further = omega (arith, w .further) }
 steps-on n s xs i e (Stopped x) a w = w
 
 -- what is left behind no element, and behind some

@@ -3,6 +3,7 @@
 -- any case, blanks may stand only around commas, and an empty element is malformed (house rule)."
 use Prim.Native.Nat.{ℕ, suc}
 use Prim.Native.Char.{code}
+use mathlib.Core.Path.{_≡_}
 use mathlib.Core.Bool.{Bool, true, false, cond, _&&_, not}
 use mathlib.Core.List.{List, [], _∷_}
 use mathlib.Core.Option.{Option, none, some}
@@ -110,6 +111,11 @@ ends-backward (a ∷ b ∷ c ∷ ps) = ends-backward (b ∷ c ∷ ps)
 -- with a sign.
 abbrev pub forward : Judgement Name
 forward = record { goes-on = λ l b. not (sign? l) && digit? b; misfit = ends-backward }
+
+-- nothing follows, or another byte than a digit
+abbrev pub NoDigit : List ℕ → Type 0
+NoDigit [] = Unit
+NoDigit (b ∷ u) = digit? b ≡ false
 
 -- ## The rules in an entity of n bytes: without that judgement, and for the value s
 

@@ -2,7 +2,7 @@
 use Prim.Native.Nat.{ℕ, suc, _+_, _-_, _≤_, _<_, min}
 use mathlib.Core.Bool.{cond}
 use mathlib.Core.List.{List, [], _∷_, _++_}
-use mathlib.Core.Logic.{_⊎_}
+use mathlib.Core.Logic.{_⊎_, _↔_}
 use lib.Dec.{ltb}
 use lib.ListN.{length}
 use Rattle.ranges.specs.declared.Element.{Element}
@@ -38,6 +38,14 @@ abbrev pub Each : {A : Type 0} → (A → Type 0) → List A → Type 0
 Each P [] = Unit
 Each P (x ∷ xs) = P x × Each P xs
 
+-- The ranges that serve elements, in the order of the elements: one that asks for no byte of the entity is left out, and any other one has
+-- a range of its own, which is just its bytes.
+pub data Served (n : ℕ) : List Element → List Range → Type 0 where
+  done : Served n [] []
+  left-out : {x : Element} {xs : List Element} {rs : List Range} → ((p : ℕ) → Selects n x p → ⊥) → Served n xs rs → Served n (x ∷ xs) rs
+  served : {x : Element} {r : Range} {xs : List Element} {rs : List Range} → InEntity n r → ((p : ℕ) → Covers r p ↔ Selects n x p)
+      → Served n xs rs → Served n (x ∷ xs) (r ∷ rs)
+
 -- ## Resolved
 
 -- where the range of an element begins, and the position behind its end: "a last beyond the end is cut, a longer suffix is the whole
@@ -61,7 +69,7 @@ abbrev pub resolved : ℕ → List Element → List Range
 resolved n [] = []
 resolved n (x ∷ xs) = kept (begin n x) (end n x) ++ resolved n xs
 
--- so many ranges; "none left is `unsatisfiable`"
+-- so many ranges; "none left is "unsatisfiable""
 pub data Ranges : Type 0 where
   satisfiable : (count : ℕ) → List Range → Ranges
   unsatisfiable : Ranges

@@ -1,11 +1,8 @@
 -- The parts of a well-formed set, in order; the theorems say that it has them.
-use Prim.Native.Nat.{ℕ}
 use mathlib.Core.Path.{_≡_}
-use mathlib.Core.Bool.{false}
 use mathlib.Core.List.{List, [], _∷_}
 use mathlib.Core.Logic.{_⊎_}
 use Rattle.grammar.specs.Grammar.{Part}
-use Rattle.octets.specs.Bytes.{digit?}
 use Rattle.ranges.specs.Grammar.{Name, first, last, sign, suffix}
 
 abbrev pub ElementParts : Part Name → Part Name → Type 0
@@ -16,8 +13,3 @@ abbrev pub InTurn : List (Part Name) → Type 0
 InTurn [] = Unit
 InTurn (a ∷ []) = ⊥
 InTurn (a ∷ b ∷ ps) = ElementParts a b × InTurn ps
-
--- nothing follows, or another byte than a digit
-abbrev pub NoDigit : List ℕ → Type 0
-NoDigit [] = Unit
-NoDigit (b ∷ u) = digit? b ≡ false

@@ -62,7 +62,7 @@ enum Number {
 
 const UNUSED: Range = Range { first: 0, last: 0 };
 
-// `bytes=`, then elements with blanks around their commas.
+// `bytes=`, then elements with blanks around their commas, resolved against an entity of so many bytes.
 pub fn read(s: &[u8], entity_length: u64) -> Reading
     ensures { λ r. ⌜ Answered «entity_length» (now (s .entry)) r ⌝ }
 {
@@ -167,7 +167,7 @@ fn end_of(element: Element, entity_length: u64) -> u64
     }
 }
 
-// Reads the element that stands at `at`, behind as many others as `elements` says, with the comma that joins it to them.
+// Reads the next element from `at`, where the first one begins, or the blanks and the comma that join it to the `elements` before it.
 fn read_next(s: &[u8], elements: usize, at: usize) -> Step
     ensures { λ r. ⌜ NextAt (now (s .entry)) elements at r ⌝ }
 {
@@ -226,21 +226,21 @@ fn read_element(s: &[u8], start: usize) -> Step
     }
 }
 
-// Reads on from the place `end` behind the digits of a first position, which begin at `start`.
-fn read_last(s: &[u8], start: usize, first: u64, end: usize) -> Step
-    requires { ⌜ NumberAt (now s) start (Number.Digits first end) ⌝ }
+// Reads on from the place behind the digits of a first position, where its minus has to stand. For the contract: they begin at `start`.
+fn read_last(s: &[u8], start: usize, first: u64, minus: usize) -> Step
+    requires { ⌜ NumberAt (now s) start (Number.Digits first minus) ⌝ }
     ensures { λ r. ⌜ ElementRead (now (s .entry)) start r ⌝ }
 {
-    if s.len() <= end {
-        return malformed(end);
+    if s.len() <= minus {
+        return malformed(minus);
     }
-    if s[end] != b'-' {
-        return malformed(end);
+    if s[minus] != b'-' {
+        return malformed(minus);
     }
-    match read_number(s, end + 1) {
+    match read_number(s, minus + 1) {
         Number::Missing => Step::Passed {
             element: Element::Open { first },
-            end: end + 1,
+            end: minus + 1,
         },
         Number::Digits { value, end } => {
             if value < first {

@@ -2,7 +2,7 @@
 
 use crate::measure::{timed, times_as_long, Ratio};
 use independent::plain_values::ranges;
-use quizotepec::ranges_read;
+use quizotepec::{ranges_read, Ranges};
 use std::hint::black_box;
 use std::time::Duration;
 
@@ -22,7 +22,12 @@ fn round<A>(value: &[u8], read: impl Fn(&[u8], u64) -> A) -> Duration {
 }
 
 fn compare(value: &[u8]) -> Ratio {
-    assert!(ranges_read(value, ENTITY_LENGTH).is_ok() && ranges(value, ENTITY_LENGTH).is_ok());
+    let Ok(Ranges::Satisfiable(set)) = ranges_read(value, ENTITY_LENGTH) else {
+        panic!("a set that is read")
+    };
+    let table = ranges(value, ENTITY_LENGTH).expect("a set that is read");
+    let ours = set.ranges().iter().map(|range| (range.first, range.last));
+    assert!(ours.eq(table.left().iter().map(|range| (range.first, range.last))), "both read the same");
     let mut ours = || round(value, ranges_read);
     let mut plain = || round(value, ranges);
     times_as_long(ROUNDS, &mut [&mut ours, &mut plain])[0]

@@ -59,8 +59,8 @@ fn is_backward(first: Option<u64>, last: Option<u64>) -> bool {
     first.zip(last).is_some_and(|(first, last)| last < first)
 }
 
-/// "A seventeenth is refusal 10 at its first byte", and "a last below its first, once its digits end, is
-/// malformed at its last digit, whatever follows". In the live beginning all digits end: one more would be
+/// "a seventeenth is refusal 10 at its first byte", and "A last below its first, once its digits end, is
+/// malformed at its last digit, whatever follows." In the live beginning all digits end: one more would be
 /// live too.
 fn limits(parsed: &Parsed, input: &[u8]) -> Vec<Refusal> {
     let seventeenth = parsed.all(FIRST).nth(RANGE_LIMIT);
@@ -96,11 +96,9 @@ pub fn read(input: &[u8], entity_length: u64) -> Result<Ranges, Refusal> {
 
 /// The `Content-Range` value of one range, as `bytes 0-499/1234`: "refusal 9 unless first is at most last,
 /// last is below the length and the length at most 2^63-1, then 8 for a short output".
-pub fn write_content_range(first: u64, last: u64, length: u64, out: &mut [u8]) -> Result<usize, Refusal> {
+pub fn write_content_range(first: u64, last: u64, length: u64, out_len: usize) -> Result<Vec<u8>, Refusal> {
     if first > last || last >= length || length > NUMBER_LIMIT {
         return Err(OUT_OF_RANGE);
     }
-    let text = fit(format!("bytes {first}-{last}/{length}").into_bytes(), out.len())?;
-    out[..text.len()].copy_from_slice(&text);
-    Ok(text.len())
+    fit(format!("bytes {first}-{last}/{length}").into_bytes(), out_len)
 }

@@ -363,7 +363,7 @@ fn arguments_of_the_range_writer() {
     let mut kinds = BTreeSet::new();
     for _ in 0..ROUNDS {
         let (first, last, length, out_len) = content_range(&mut rng);
-        let number = ranges::write_content_range(first, last, length, &mut vec![0; out_len])
+        let number = ranges::write_content_range(first, last, length, out_len)
             .map_or_else(|refusal| refusal.number, |_| 0);
         kinds.insert((number, first > last, last >= length, length > ranges::NUMBER_LIMIT));
     }

@@ -18,7 +18,8 @@ use std::fmt::{Display, Formatter, Result};
 pub enum Refusal {
     /// Refusal 1: malformed.
     Malformed {
-        /// The length of the longest beginning that some continuation, limits aside, makes well-formed.
+        /// The length of the longest beginning that some continuation, limits aside, makes well-formed; where a last
+        /// byte position is below its first, its last digit.
         place: usize,
     },
     /// Refusal 2: a number above its limit.

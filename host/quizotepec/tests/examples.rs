@@ -163,7 +163,7 @@ fn malformed_ranges() {
     ] {
         assert_eq!(ranges_in(10_000, value), no(1, place), "{value}");
     }
-    // Without its last digit the number could go on: it is not yet below.
+    // 3 is not its last digit.
     assert_eq!(ranges_in(10_000, "bytes=5-30"), Ok(vec![range(5, 30)]));
     assert_eq!(ranges_in(10_000, &format!("bytes=0-{}", "0".repeat(8_184))), Ok(vec![range(0, 0)]));
     assert_eq!(ranges_in(10_000, &format!("bytes=0-{}", "0".repeat(8_185))), no(13, 8_192));

@@ -1,21 +1,19 @@
-//! Byte ranges and `Content-Range` against the independent implementation.
+//! Byte ranges against the independent implementation.
 
 mod common;
 
-use common::{raw, refusal, writes, RANDOM};
+use common::{raw, refusal, RANDOM};
 use independent::generate::{
-    capped_range_sets, content_range, counted_range_sets, damaged_range_set, entity_lengths, long_range_sets,
-    range_set, short_range_sets, Rng,
+    capped_range_sets, counted_range_sets, damaged_range_set, entity_lengths, long_range_sets, range_set,
+    short_range_sets, Rng,
 };
-use independent::ranges::{self, write_content_range, NUMBER_LIMIT};
-use quizotepec::{content_range_write, ranges_read, Range, Ranges};
+use independent::ranges::{self, NUMBER_LIMIT};
+use quizotepec::{ranges_read, Range, Ranges};
 
 /// Entity lengths for the exhaustive tests: none, one byte, around the numbers that occur, the largest and one more.
 const LENGTHS: [u64; 6] = [0, 1, 10, 10_000, NUMBER_LIMIT, NUMBER_LIMIT + 1];
 /// How many well-formed sets are cut at every place.
 const CUT: usize = 2_000;
-/// Longer than the longest Content-Range value.
-const AMPLE: usize = 80;
 
 /// The independent answer in the wrapper's terms: none of the ranges is "unsatisfiable".
 fn expected(input: &[u8], length: u64) -> Result<Vec<Range>, quizotepec::Refusal> {
@@ -124,16 +122,4 @@ fn random_sets() {
 #[test]
 fn random_damaged_sets() {
     random(damaged_range_set, 28);
-}
-
-#[test]
-fn random_content_ranges() {
-    let mut rng = Rng::new(29);
-    for _ in 0..RANDOM {
-        let (first, last, length, room) = content_range(&mut rng);
-        let mut out = vec![0; AMPLE.max(room)];
-        let expected = write_content_range(first, last, length, &mut out[..room]);
-        let text = expected.map(|written| out[..written].to_vec());
-        writes(text, room, |out| content_range_write(Range { first, last }, length, out), (first, last, length));
-    }
 }

@@ -4,8 +4,9 @@ mod common;
 
 use common::{at, lend, whole, writes, RANDOM};
 use independent::date::{EARLIEST, LATEST, LENGTH};
-use independent::generate::{frame, instant, numbers, Rng};
+use independent::generate::{content_range, frame, instant, numbers, Rng};
 use independent::number::{ARGUMENT_OUT_OF_RANGE, BODY_TOO_LARGE, OUTPUT_TOO_SHORT};
+use independent::ranges::{write_content_range, NUMBER_LIMIT};
 use independent::{chunked, date, qvalue, version};
 use quizotepec::{
     chunked_decode, chunked_encode, content_range_write, date_write, qvalue_write, version_write, Pieces,
@@ -16,8 +17,6 @@ use quizotepec::{
 const VERSION_ROOM: usize = 20;
 const QVALUE_ROOM: usize = 8;
 const CONTENT_RANGE_ROOM: usize = 67;
-/// The largest length of an entity, 2^63 - 1.
-const LENGTH_LIMIT: u64 = u64::MAX / 2;
 const DAY_SECONDS: i64 = 86_400;
 /// How many bytes a body has at most in the test of every chunk length.
 const SHORT_BODY: usize = 24;
@@ -27,16 +26,14 @@ fn version_agrees(major: u32, minor: u32, room: usize) {
     writes(expected, room, |out| version_write(Version { major, minor }, out), (major, minor));
 }
 
-/// The rules of request (iv) of document 02, and the text as Rust formats it.
-fn content_range_agrees(first: u64, last: u64, entity_length: u64, room: usize) {
-    let text = format!("bytes {first}-{last}/{entity_length}");
-    let in_range = first <= last && last < entity_length && entity_length <= LENGTH_LIMIT;
-    let expected = match (in_range, text.len() <= room) {
-        (false, _) => Err(independent::Refusal::new(ARGUMENT_OUT_OF_RANGE, 0)),
-        (true, false) => Err(independent::Refusal::new(OUTPUT_TOO_SHORT, 0)),
-        (true, true) => Ok(text.clone().into_bytes()),
-    };
-    writes(expected, room, |out| content_range_write(Range { first, last }, entity_length, out), text);
+fn content_range_agrees(first: u64, last: u64, length: u64, room: usize) {
+    let expected = write_content_range(first, last, length, room);
+    writes(
+        expected,
+        room,
+        |out| content_range_write(Range { first, last }, length, out),
+        (first, last, length),
+    );
 }
 
 fn date_agrees(seconds: i64, room: usize) {
@@ -82,7 +79,7 @@ fn every_qvalue() {
 #[test]
 fn content_ranges_in_every_room() {
     let near = |middle: u64| (0..=2).map(move |by| middle - 1 + by);
-    let middles = [1, 10, 100, 1 << 32, LENGTH_LIMIT, u64::MAX - 1];
+    let middles = [1, 10, 100, 1 << 32, NUMBER_LIMIT, u64::MAX - 1];
     let numbers: Vec<u64> = middles.into_iter().flat_map(near).collect();
     for &first in &numbers {
         for &last in &numbers {
@@ -93,18 +90,12 @@ fn content_ranges_in_every_room() {
     }
 }
 
-/// Most are in range: the numbers are below each other.
 #[test]
 fn random_content_ranges() {
     let mut rng = Rng::new(25);
     for _ in 0..RANDOM {
-        let [mut first, mut last, mut length] = [rng.word(), rng.word(), rng.word()];
-        if !rng.once_in(10) {
-            length = (length >> rng.below(64)).max(1);
-            last %= length;
-            first %= last + 1;
-        }
-        content_range_agrees(first, last, length, rng.below(CONTENT_RANGE_ROOM));
+        let (first, last, length, room) = content_range(&mut rng);
+        content_range_agrees(first, last, length, room);
     }
 }
 

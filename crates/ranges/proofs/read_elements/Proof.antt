@@ -62,7 +62,7 @@ add-elements : tie.Need-add-elements Inv-loop μ-loop
 add-elements c = let e = c .before in omega (arith, filling-counted (l (d e) .loop .inv) (passed e))
 
 loop-less : tie.Need-loop-less Inv-loop μ-loop
-loop-less c = let e = c .before in omega (arith, passed e .forward, d e .before .loop-test .taken)
+loop-less c = let e = c .before in omega (arith, passed e .further, d e .before .loop-test .taken)
 
 loop-again : tie.Need-loop-again Inv-loop μ-loop
 loop-again c =

@@ -14,32 +14,32 @@ returns c n xs room x =
     let z = c .before .before .before in
     let a = z .args in
     subst (StepAt n (a .s .now) xs (a .start)) (sym (c .malformed .ensures))
-    (minus-missing n (a .s .now) x room (a .first) (a .end) (z .pre) (c .before .if1 .taken))
+    (minus-missing n (a .s .now) x room (a .first) (a .minus) (z .pre) (c .before .if1 .taken))
 
 returns-2 : tie.Need-returns-2
 returns-2 c n xs room x =
     let z = c .before .before .before .before .before in
     let a = z .args in
     subst (StepAt n (a .s .now) xs (a .start)) (sym (c .malformed2 .ensures))
-    (minus-not n (a .s .now) x room (a .first) (a .end) (z .pre) (c .before .before .before .if1 .left) (c .before .if2 .taken))
+    (minus-not n (a .s .now) x room (a .first) (a .minus) (z .pre) (c .before .before .before .if1 .left) (c .before .if2 .taken))
 
 returns-3 : tie.Need-returns-3
 returns-3 c n xs room x =
     let d = c .before .before in
     let z = d .before .before .before .before .before in
     let a = z .args in
-    open-read n (a .s .now) x room (a .first) (a .end) (z .pre) (d .before .before .before .if1 .left) (d .before .if2 .left)
-    (subst (NumberAt (a .s .now) (a .end + 1)) (is-missing (d .read-number .result) (c .before .match .keys1)) (d .read-number .ensures))
+    open-read n (a .s .now) x room (a .first) (a .minus) (z .pre) (d .before .before .before .if1 .left) (d .before .if2 .left)
+    (subst (NumberAt (a .s .now) (a .minus + 1)) (is-missing (d .read-number .result) (c .before .match .keys1)) (d .read-number .ensures))
 
 -- the last position that was read
 module _ (c : tie.After-known-told) where
   abbrev d : tie.After-read-number
   d = c .before .before .before
 
-  last-at : DigitsAt (d .before .before .before .before .before .args .s .now) (d .before .before .before .before .before .args .end + 1)
+  last-at : DigitsAt (d .before .before .before .before .before .args .s .now) (d .before .before .before .before .before .args .minus + 1)
       (c .before .value .given .0 .0) (c .before .value .given .0 .1 .0)
   last-at =
-      subst (NumberAt (d .before .before .before .before .before .args .s .now) (d .before .before .before .before .before .args .end + 1))
+      subst (NumberAt (d .before .before .before .before .before .args .s .now) (d .before .before .before .before .before .args .minus + 1))
       (c .before .value .given .1) (d .read-number .ensures)
 
 sub-malformed : tie.Need-sub-malformed
@@ -52,7 +52,7 @@ returns-4 c n xs room x =
     let z = d .before .before .before .before .before in
     let a = z .args in
     subst (StepAt n (a .s .now) xs (a .start)) (sym (c .malformed3 .ensures))
-    (backward-refused n (a .s .now) x room (a .first) (a .end) (z .pre) (d .before .before .before .if1 .left) (d .before .if2 .left) _ _
+    (backward-refused n (a .s .now) x room (a .first) (a .minus) (z .pre) (d .before .before .before .if1 .left) (d .before .if2 .left) _ _
     (last-at e) (c .before .if3 .taken))
 
 returns-5 : tie.Need-returns-5
@@ -60,7 +60,7 @@ returns-5 c n xs room x =
     let d = c .before .before .before .before in
     let z = d .before .before .before .before .before in
     let a = z .args in
-    closed-read n (a .s .now) x room (a .first) (a .end) (z .pre) (d .before .before .before .if1 .left) (d .before .if2 .left) _ _
+    closed-read n (a .s .now) x room (a .first) (a .minus) (z .pre) (d .before .before .before .if1 .left) (d .before .if2 .left) _ _
     (last-at (c .before)) (c .if3 .left)
 
 pub read-last-spec : {M : Type 1} → statement M

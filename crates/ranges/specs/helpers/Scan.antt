@@ -66,7 +66,7 @@ module _ (n : ℕ) (s : List ℕ) where
   abbrev pub ElementAt : List Element → ℕ → Type 0
   ElementAt xs i = FoundBefore (element ⨾ others) xs i
 
-  -- `bytes=` stands in front of a text that is not too long
+  -- the entity is not too long, and `bytes=` stands in front
   pub record Begun : Type 0 where
     pub length-within : n ≤ length-limit
     pub found : Found [] 6
@@ -74,7 +74,7 @@ module _ (n : ℕ) (s : List ℕ) where
   -- behind xs, one more element was read; a step that stopped has the answer
   pub record Read (xs : List Element) (i : ℕ) (x : Element) (e : ℕ) : Type 0 where
     pub found : FoundBefore others (xs ++ x ∷ []) e
-    pub forward : i < e
+    pub further : i < e
 
   abbrev pub StepAt : List Element → ℕ → Step → Type 0
   StepAt xs i (Passed x e) = Read xs i x e

@@ -220,7 +220,7 @@ pub fn content_range(rng: &mut Rng) -> (u64, u64, u64, usize) {
         1 => last,
         _ => rng.word() % last.max(1),
     };
-    let needed = write_content_range(first, last, length, &mut [0; AMPLE]).unwrap_or(0);
+    let needed = write_content_range(first, last, length, AMPLE).map_or(0, |text| text.len());
     let out_len = match rng.below(4) {
         0 => needed.saturating_sub(1),
         1 => needed,
