@@ -11,19 +11,19 @@ use Rattle.grammar.specs.Reading.{Verdict, value, refused}
 use Rattle.octets.specs.Writing.{output}
 use Rattle.octets.proofs.Answers.{tells-nine, tells-eight, tells-length, is-eight, rest-kept}
 use Rattle.octets.proofs.Writing.{stands-in-front}
-use Rattle.content_range_writer.specs.Writing.{range-text, InRange, out-of-range, range-writing, range-output}
+use Rattle.content_range_writer.specs.Writing.{content-range-text, InRange, out-of-range, content-range-writing, content-range-output}
 use Rattle.content_range_writer.proofs.Writer.{at-most-65, within, in-range, outside}
 
 module _ (first last entity-length : ℕ) where
   abbrev text : List ℕ
-  text = range-text first last entity-length
+  text = content-range-text first last entity-length
 
   abbrev test : Bool
   test = out-of-range first last entity-length
 
   -- "refusal 9 unless first is at most last, last is below the length and the length at most 2^63-1"
   pub nine-exactly : (room : ℕ)
-      → (range-writing first last entity-length room ≡ refused OUT_OF_RANGE 0) ↔ (InRange first last entity-length → ⊥)
+      → (content-range-writing first last entity-length room ≡ refused OUT_OF_RANGE 0) ↔ (InRange first last entity-length → ⊥)
   nine-exactly room = (
     λ e r. true≢false (sym (tells-nine test text room e) ∙ within first last entity-length r),
     λ never. rw (outside first last entity-length never),
@@ -31,7 +31,7 @@ module _ (first last entity-length : ℕ) where
 
   -- "then 8 for a short output"
   pub eight-exactly : (room : ℕ)
-      → (range-writing first last entity-length room ≡ refused OUTPUT_TOO_SHORT 0)
+      → (content-range-writing first last entity-length room ≡ refused OUTPUT_TOO_SHORT 0)
       ↔ (InRange first last entity-length × (room < length text))
   eight-exactly room = (
     λ e. let t = tells-eight test text room e in
@@ -41,9 +41,9 @@ module _ (first last entity-length : ℕ) where
 
   -- "they write at the front of the output, keep the rest and give the length"
   pub writes-exactly : (old : List ℕ)
-      → ((range-writing first last entity-length (length old) ≡ value (length text))
-      × (take (length text) (range-output first last entity-length old) ≡ text)
-      × (drop (length text) (range-output first last entity-length old) ≡ drop (length text) old))
+      → ((content-range-writing first last entity-length (length old) ≡ value (length text))
+      × (take (length text) (content-range-output first last entity-length old) ≡ text)
+      × (drop (length text) (content-range-output first last entity-length old) ≡ drop (length text) old))
       ↔ (InRange first last entity-length × (length text ≤ length old))
   writes-exactly old = (
     λ w. let t = tells-length test text (length old) (w .0) in
@@ -54,8 +54,8 @@ module _ (first last entity-length : ℕ) where
   )
 
   -- "No refusal writes into a lent buffer"
-  pub keeps : (old : List ℕ) (number place : ℕ) → range-writing first last entity-length (length old) ≡ refused number place
-      → range-output first last entity-length old ≡ old
+  pub keeps : (old : List ℕ) (number place : ℕ) → content-range-writing first last entity-length (length old) ≡ refused number place
+      → content-range-output first last entity-length old ≡ old
   keeps old number place e = ap (λ (v : Verdict ℕ). output v text old) e
 
   -- the unit and its blank, three numbers of at most 19 digits, a dash and a slash

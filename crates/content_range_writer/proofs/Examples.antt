@@ -10,35 +10,35 @@ use Rattle.grammar.specs.Text.{bytes}
 use Rattle.octets.specs.Numbers.{length-limit}
 use Rattle.numerals.specs.Numeral.{glyph, digits, width-in, width, numeral}
 use Rattle.numerals.proofs.Digits.{width-some, width-large, width-below}
-use Rattle.content_range_writer.specs.Writing.{range-text, range-writing, range-output}
+use Rattle.content_range_writer.specs.Writing.{content-range-text, content-range-writing, content-range-output}
 
 -- "as `bytes 0-499/1234`": 16 bytes
-document : (range-text 0 499 1234 ≡ bytes "bytes 0-499/1234") × (length (range-text 0 499 1234) ≡ 16)
+document : (content-range-text 0 499 1234 ≡ bytes "bytes 0-499/1234") × (length (content-range-text 0 499 1234) ≡ 16)
 unfolding numeral digits width width-in glyph
 document = (refl, refl)
 
 -- an output one byte short, one that just holds the text, and one with a byte more, which is kept
 rooms :
-    (range-writing 0 499 1234 15 ≡ refused OUTPUT_TOO_SHORT 0)
-    × (range-output 0 499 1234 (bytes "...............") ≡ bytes "...............")
-    × (range-writing 0 499 1234 16 ≡ value 16)
-    × (range-output 0 499 1234 (bytes "................") ≡ bytes "bytes 0-499/1234")
-    × (range-output 0 499 1234 (bytes ".................") ≡ bytes "bytes 0-499/1234.")
+    (content-range-writing 0 499 1234 15 ≡ refused OUTPUT_TOO_SHORT 0)
+    × (content-range-output 0 499 1234 (bytes "...............") ≡ bytes "...............")
+    × (content-range-writing 0 499 1234 16 ≡ value 16)
+    × (content-range-output 0 499 1234 (bytes "................") ≡ bytes "bytes 0-499/1234")
+    × (content-range-output 0 499 1234 (bytes ".................") ≡ bytes "bytes 0-499/1234.")
 unfolding numeral digits width width-in glyph
 rooms = (refl, refl, refl, refl, refl)
 
 -- one byte: the whole of an entity, and the last of one
-one-byte : (range-text 0 0 1 ≡ bytes "bytes 0-0/1") × (range-text 9 9 10 ≡ bytes "bytes 9-9/10")
+one-byte : (content-range-text 0 0 1 ≡ bytes "bytes 0-0/1") × (content-range-text 9 9 10 ≡ bytes "bytes 9-9/10")
 unfolding numeral digits width width-in glyph
 one-byte = (refl, refl)
 
 -- "first is at most last", "last is below the length": an empty entity has no range
 bounds :
-    (range-writing 5 5 10 20 ≡ value 12)
-    × (range-writing 6 5 10 20 ≡ refused OUT_OF_RANGE 0)
-    × (range-writing 5 9 10 20 ≡ value 12)
-    × (range-writing 5 10 10 20 ≡ refused OUT_OF_RANGE 0)
-    × (range-writing 0 0 0 20 ≡ refused OUT_OF_RANGE 0)
+    (content-range-writing 5 5 10 20 ≡ value 12)
+    × (content-range-writing 6 5 10 20 ≡ refused OUT_OF_RANGE 0)
+    × (content-range-writing 5 9 10 20 ≡ value 12)
+    × (content-range-writing 5 10 10 20 ≡ refused OUT_OF_RANGE 0)
+    × (content-range-writing 0 0 0 20 ≡ refused OUT_OF_RANGE 0)
 unfolding numeral digits width width-in glyph
 bounds = (refl, refl, refl, refl, refl)
 
@@ -72,12 +72,12 @@ power : length-limit ≡ 2 ^ 63 - 1
 power = refl
 
 limit :
-    (range-text 0 9223372036854775806 9223372036854775807 ≡ bytes "bytes 0-9223372036854775806/9223372036854775807")
-    × (range-writing 0 9223372036854775806 9223372036854775807 65 ≡ value 47)
-    × (range-writing 9223372036854775806 9223372036854775806 9223372036854775807 65 ≡ value 65)
-    × (range-writing 0 9223372036854775806 9223372036854775808 65 ≡ refused OUT_OF_RANGE 0)
+    (content-range-text 0 9223372036854775806 9223372036854775807 ≡ bytes "bytes 0-9223372036854775806/9223372036854775807")
+    × (content-range-writing 0 9223372036854775806 9223372036854775807 65 ≡ value 47)
+    × (content-range-writing 9223372036854775806 9223372036854775806 9223372036854775807 65 ≡ value 65)
+    × (content-range-writing 0 9223372036854775806 9223372036854775808 65 ≡ refused OUT_OF_RANGE 0)
 limit = (rw (nought, penultimate, largest), rw (nought, penultimate, largest), rw (penultimate, largest), refl)
 
 -- 9 before 8
-order : range-writing 6 5 10 0 ≡ refused OUT_OF_RANGE 0
+order : content-range-writing 6 5 10 0 ≡ refused OUT_OF_RANGE 0
 order = refl

@@ -13,7 +13,7 @@ use Rattle.numerals.specs.Numeral.{numeral}
 use Rattle.numerals.proofs.Digits.{split, width-below, numeral-length}
 use Rattle.text.specs.Placing.{placed, behind}
 use Rattle.text.proofs.Placing.{placed-front, Put, put-none, put-then}
-use Rattle.content_range_writer.specs.Writing.{range-text, InRange, out-of-range}
+use Rattle.content_range_writer.specs.Writing.{content-range-text, InRange, out-of-range}
 
 -- ## Its digits
 nineteen-digits : (n : ℕ) → n ≤ length-limit → length (numeral 10 n) ≤ 19
@@ -41,7 +41,7 @@ module _ (first last entity-length : ℕ) where
   abbrev to-slash : List ℕ
   to-slash = to-last ++ bytes "/"
 
-  pub text-length : length (range-text first last entity-length)
+  pub text-length : length (content-range-text first last entity-length)
       ≡ 8 + (length (numeral 10 first) + length (numeral 10 last) + length (numeral 10 entity-length))
   text-length =
       omega (
@@ -52,7 +52,7 @@ module _ (first last entity-length : ℕ) where
         length-append to-slash (numeral 10 entity-length),
       )
 
-  pub at-most-65 : InRange first last entity-length → length (range-text first last entity-length) ≤ 65
+  pub at-most-65 : InRange first last entity-length → length (content-range-text first last entity-length) ≤ 65
   at-most-65 r =
       omega (
         arith,
@@ -63,16 +63,16 @@ module _ (first last entity-length : ℕ) where
       )
 
   -- the unit, the first, the dash, the last, the slash, the length, one behind the other
-  pub text-put : (old l₁ l₂ l₃ l₄ l₅ l₆ : List ℕ) (p₁ p₂ p₃ p₄ p₅ p₆ : ℕ) → length (range-text first last entity-length) ≤ length old
+  pub text-put : (old l₁ l₂ l₃ l₄ l₅ l₆ : List ℕ) (p₁ p₂ p₃ p₄ p₅ p₆ : ℕ) → length (content-range-text first last entity-length) ≤ length old
       → p₁ ≡ behind old 0 (bytes "bytes ") → l₁ ≡ placed old 0 (bytes "bytes ")
       → p₂ ≡ behind l₁ p₁ (numeral 10 first) → l₂ ≡ placed l₁ p₁ (numeral 10 first)
       → p₃ ≡ behind l₂ p₂ (bytes "-") → l₃ ≡ placed l₂ p₂ (bytes "-")
       → p₄ ≡ behind l₃ p₃ (numeral 10 last) → l₄ ≡ placed l₃ p₃ (numeral 10 last)
       → p₅ ≡ behind l₄ p₄ (bytes "/") → l₅ ≡ placed l₄ p₄ (bytes "/")
       → p₆ ≡ behind l₅ p₅ (numeral 10 entity-length) → l₆ ≡ placed l₅ p₅ (numeral 10 entity-length)
-      → l₆ ≡ range-text first last entity-length ++ drop (length (range-text first last entity-length)) old
+      → l₆ ≡ content-range-text first last entity-length ++ drop (length (content-range-text first last entity-length)) old
   text-put old l₁ l₂ l₃ l₄ l₅ l₆ p₁ p₂ p₃ p₄ p₅ p₆ h₆ e₁ w₁ e₂ w₂ e₃ w₃ e₄ w₄ e₅ w₅ e₆ w₆ =
-      put₆ .is ∙ placed-front old (range-text first last entity-length) h₆
+      put₆ .is ∙ placed-front old (content-range-text first last entity-length) h₆
     where
       h₅ : length to-slash ≤ length old
       h₅ = front-fits to-slash (numeral 10 entity-length) old h₆
@@ -104,7 +104,7 @@ module _ (first last entity-length : ℕ) where
       put₅ : Put old 0 to-slash l₅ p₅
       put₅ = front-then old to-last l₄ p₄ (bytes "/") l₅ p₅ put₄ h₅ e₅ w₅
 
-      put₆ : Put old 0 (range-text first last entity-length) l₆ p₆
+      put₆ : Put old 0 (content-range-text first last entity-length) l₆ p₆
       put₆ = front-then old to-slash l₅ p₅ (numeral 10 entity-length) l₆ p₆ put₅ h₆ e₆ w₆
 
 -- ## The test

@@ -13,8 +13,8 @@ use Rattle.octets.specs.Numbers.{length-limit}
 use Rattle.octets.specs.Writing.{output, writing}
 
 -- "as `bytes 0-499/1234`"
-abbrev pub range-text : (first last entity-length : ℕ) → List ℕ
-range-text first last entity-length =
+abbrev pub content-range-text : (first last entity-length : ℕ) → List ℕ
+content-range-text first last entity-length =
     bytes "bytes " ++ numeral 10 first ++ bytes "-" ++ numeral 10 last ++ bytes "/" ++ numeral 10 entity-length
 
 -- "first is at most last, last is below the length and the length at most 2^63-1"
@@ -26,9 +26,10 @@ abbrev pub out-of-range : (first last entity-length : ℕ) → Bool
 out-of-range first last entity-length = not (leb first last && ltb last entity-length && leb entity-length length-limit)
 
 -- the answer in a room, and the lent output afterwards
-abbrev pub range-writing : (first last entity-length : ℕ) → ℕ → Verdict ℕ
-range-writing first last entity-length room = writing (out-of-range first last entity-length) (range-text first last entity-length) room
+abbrev pub content-range-writing : (first last entity-length : ℕ) → ℕ → Verdict ℕ
+content-range-writing first last entity-length room =
+    writing (out-of-range first last entity-length) (content-range-text first last entity-length) room
 
-abbrev pub range-output : (first last entity-length : ℕ) → List ℕ → List ℕ
-range-output first last entity-length old =
-    output (range-writing first last entity-length (length old)) (range-text first last entity-length) old
+abbrev pub content-range-output : (first last entity-length : ℕ) → List ℕ → List ℕ
+content-range-output first last entity-length old =
+    output (content-range-writing first last entity-length (length old)) (content-range-text first last entity-length) old

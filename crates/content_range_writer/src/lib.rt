@@ -4,7 +4,7 @@ ghost use mathlib.Core.List.{_++_};
 ghost use Prim.Native.Nat.{_≤_};
 ghost use lib.ListN.{length, drop};
 ghost use Rattle.octets.specs.Writing.{written};
-ghost use Rattle.content_range_writer.specs.Writing.{InRange, range-text, range-writing, range-output};
+ghost use Rattle.content_range_writer.specs.Writing.{InRange, content-range-text, content-range-writing, content-range-output};
 use octets::LENGTH_LIMIT;
 use octets::OUT_OF_RANGE;
 use octets::OUTPUT_TOO_SHORT;
@@ -15,8 +15,8 @@ const UNIT_LEN: usize = 6;
 
 // Writes the range, as `bytes 0-499/1234`, at the front of `out`, and keeps the rest of `out`.
 pub fn write(first: u64, last: u64, entity_length: u64, out: &mut [u8]) -> Written
-    ensures answers { λ r. ⌜ written r ≡ range-writing first last «entity_length» (length (now (out .entry))) ⌝ }
-    ensures writes { λ _. ⌜ now (out .exit) ≡ range-output first last «entity_length» (now (out .entry)) ⌝ }
+    ensures answers { λ r. ⌜ written r ≡ content-range-writing first last «entity_length» (length (now (out .entry))) ⌝ }
+    ensures writes { λ _. ⌜ now (out .exit) ≡ content-range-output first last «entity_length» (now (out .entry)) ⌝ }
 {
     if first > last {
         return octets::unwritten(OUT_OF_RANGE);
@@ -37,7 +37,7 @@ pub fn write(first: u64, last: u64, entity_length: u64, out: &mut [u8]) -> Writt
 
 fn text_len(first: u64, last: u64, entity_length: u64) -> usize
     requires { ⌜ InRange first last «entity_length» ⌝ }
-    ensures { λ r. ⌜ r ≡ length (range-text first last «entity_length») ⌝ }
+    ensures { λ r. ⌜ r ≡ length (content-range-text first last «entity_length») ⌝ }
 {
     let first_digits = numerals::decimal_width(first);
     let last_digits = numerals::decimal_width(last);
@@ -46,10 +46,10 @@ fn text_len(first: u64, last: u64, entity_length: u64) -> usize
 }
 
 fn put_text(first: u64, last: u64, entity_length: u64, out: &mut [u8])
-    requires { ⌜ length (range-text first last «entity_length») ≤ length (now out) ⌝ }
+    requires { ⌜ length (content-range-text first last «entity_length») ≤ length (now out) ⌝ }
     ensures { λ _. ⌜
         now (out .exit)
-        ≡ range-text first last «entity_length» ++ drop (length (range-text first last «entity_length»)) (now (out .entry))
+        ≡ content-range-text first last «entity_length» ++ drop (length (content-range-text first last «entity_length»)) (now (out .entry))
         ⌝ }
 {
     let unit_end = text::put_bytes(b"bytes ", out, 0);

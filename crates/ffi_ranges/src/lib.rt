@@ -3,7 +3,7 @@ ghost use mathlib.Core.Path.{_≡_};
 ghost use mathlib.Core.List.{map};
 ghost use lib.ListN.{length};
 ghost use Rattle.ranges.specs.Reading.{reading};
-ghost use Rattle.content_range_writer.specs.Writing.{range-writing, range-output};
+ghost use Rattle.content_range_writer.specs.Writing.{content-range-writing, content-range-output};
 ghost use Rattle.ffi_ranges.specs.Fields.{range-fields, ranges-fields};
 ghost use Rattle.ffi.specs.Fields.{written-fields};
 use ffi::QzWritten;
@@ -103,8 +103,8 @@ pub extern "C" fn qz_content_range_write(
     entity_length: u64,
     out: &mut [u8],
 ) -> QzWritten
-    ensures answers { λ r. ⌜ r ≡ written-fields (range-writing first last «entity_length» (length (now (out .entry)))) ⌝ }
-    ensures writes { λ _. ⌜ now (out .exit) ≡ range-output first last «entity_length» (now (out .entry)) ⌝ }
+    ensures answers { λ r. ⌜ r ≡ written-fields (content-range-writing first last «entity_length» (length (now (out .entry)))) ⌝ }
+    ensures writes { λ _. ⌜ now (out .exit) ≡ content-range-output first last «entity_length» (now (out .entry)) ⌝ }
 {
     ffi::written_fields(content_range_writer::write(first, last, entity_length, out))
 }

@@ -2,7 +2,7 @@
 use native.Mathlib.Omega.{arith}
 use borrow.Author.Needs.{needs}
 use Rattle.octets.proofs.Writing.{refuses-argument, refuses-short, writes-all}
-use Rattle.content_range_writer.specs.Writing.{range-text, out-of-range}
+use Rattle.content_range_writer.specs.Writing.{content-range-text, out-of-range}
 use Rattle.content_range_writer.proofs.Writer.{within, outside}
 use Rattle.content_range_writer.proofs.write.Statement.{statement}
 use Rattle.content_range_writer.proofs.write.Tie as tie
@@ -13,7 +13,7 @@ returns c =
     let i = x .first in
     let j = x .last in
     let n = x .entity-length in
-    refuses-argument (out-of-range i j n) (range-text i j n) (x .out .now) (c .unwritten .result) (c .unwritten .ensures)
+    refuses-argument (out-of-range i j n) (content-range-text i j n) (x .out .now) (c .unwritten .result) (c .unwritten .ensures)
     (outside i j n (λ r. omega (arith, c .before .if1 .taken)))
 
 returns-2 : tie.Need-returns-2
@@ -22,7 +22,7 @@ returns-2 c =
     let i = x .first in
     let j = x .last in
     let n = x .entity-length in
-    refuses-argument (out-of-range i j n) (range-text i j n) (x .out .now) (c .unwritten2 .result) (c .unwritten2 .ensures)
+    refuses-argument (out-of-range i j n) (content-range-text i j n) (x .out .now) (c .unwritten2 .result) (c .unwritten2 .ensures)
     (outside i j n (λ r. omega (arith, c .before .if2 .taken)))
 
 returns-3 : tie.Need-returns-3
@@ -31,7 +31,7 @@ returns-3 c =
     let i = x .first in
     let j = x .last in
     let n = x .entity-length in
-    refuses-argument (out-of-range i j n) (range-text i j n) (x .out .now) (c .unwritten3 .result) (c .unwritten3 .ensures)
+    refuses-argument (out-of-range i j n) (content-range-text i j n) (x .out .now) (c .unwritten3 .result) (c .unwritten3 .ensures)
     (outside i j n (λ r. omega (arith, c .before .if3 .taken)))
 
 returns-4 : tie.Need-returns-4
@@ -42,7 +42,7 @@ returns-4 c =
     let i = x .first in
     let j = x .last in
     let n = x .entity-length in
-    refuses-short (out-of-range i j n) (range-text i j n) (x .out .now) (c .unwritten4 .result) (c .unwritten4 .ensures)
+    refuses-short (out-of-range i j n) (content-range-text i j n) (x .out .now) (c .unwritten4 .result) (c .unwritten4 .ensures)
     (within i j n (i₃ .before .before .if1 .left, i₃ .before .if2 .left, i₃ .if3 .left))
     (omega (arith, len .text-len .ensures, c .before .if4 .taken))
 
@@ -56,7 +56,7 @@ returns-5 c =
     let i = x .first in
     let j = x .last in
     let n = x .entity-length in
-    writes-all (out-of-range i j n) (range-text i j n) (x .out .now)
+    writes-all (out-of-range i j n) (content-range-text i j n) (x .out .now)
     (len .text-len .result) (p .put-text .last .1 .1 .1 .0) (len .text-len .ensures)
     (within i j n (i₃ .before .before .if1 .left, i₃ .before .if2 .left, i₃ .if3 .left))
     (omega (arith, len .text-len .ensures, i₄ .if4 .left)) (p .put-text .ensures)
