@@ -79,8 +79,12 @@ module _ (n : ℕ) (s : List ℕ) (v : Ranges) (e : reading n s ≡ value v) (ps
           → (n ≤ length-limit) × (w ≡ answer (resolved n (elements capped ps)))
       asked w (in-range i a) = (i, parts w a)
 
+  -- The table is the resolved elements in order.
+  pub resolves : v ≡ answer (resolved n (elements capped ps))
+  resolves = read-is .1
+
   ranges-are : ranges-in v ≡ resolved n (elements capped ps)
-  ranges-are = ap ranges-in (read-is .1) ∙ same (resolved n (elements capped ps))
+  ranges-are = ap ranges-in resolves ∙ same (resolved n (elements capped ps))
     where
       same : (rs : List Range) → ranges-in (answer rs) ≡ rs
       same [] = refl
@@ -103,7 +107,7 @@ module _ (n : ℕ) (s : List ℕ) (v : Ranges) (e : reading n s ≡ value v) (ps
 
   -- How many, never none; "none left" exactly where no byte is asked for.
   pub how-many : (count : ℕ) (rs : List Range) → v ≡ satisfiable count rs → (count ≡ length rs) × (0 < count)
-  how-many count rs e = go (resolved n (elements capped ps)) (sym (read-is .1) ∙ e)
+  how-many count rs e = go (resolved n (elements capped ps)) (sym resolves ∙ e)
     where
       go : (us : List Range) → answer us ≡ satisfiable count rs → (count ≡ length rs) × (0 < count)
       go [] f = let z : _≡_ {A = ℕ} 0 1 = cc in absurd (omega arith)
@@ -115,7 +119,7 @@ module _ (n : ℕ) (s : List ℕ) (v : Ranges) (e : reading n s ≡ value v) (ps
   pub none-left : (v ≡ unsatisfiable) ↔ ((at : ℕ) → Some (λ x. Selects n x at) (elements number ps) → ⊥)
   none-left = (
     λ e at h. subst (λ (w : Ranges). Some (λ r. Covers r at) (ranges-in w)) e (every-byte at .1 h),
-    λ none. go (resolved n (elements capped ps)) (read-is .1) ranges-are none,
+    λ none. go (resolved n (elements capped ps)) resolves ranges-are none,
   )
     where
       go : (us : List Range) → v ≡ answer us → ranges-in v ≡ us → ((at : ℕ) → Some (λ x. Selects n x at) (elements number ps) → ⊥)
