@@ -97,13 +97,11 @@ module _ (n : ℕ) (s : List ℕ) (v : Ranges) (e : reading n s ≡ value v) (ps
 
   -- Each byte of the entity is in some range of the answer exactly when it is in some element as RFC 2616 means it, numbers as sent.
   pub every-byte : (at : ℕ) → Some (λ r. Covers r at) (ranges-in v) ↔ Some (λ x. Selects n x at) (elements number ps)
-  every-byte at =
-      let w = covered n at (read-is .0) ps in
-      (λ h. w .0 (subst (Some (λ r. Covers r at)) ranges-are h), λ h. subst (Some (λ r. Covers r at)) (sym ranges-are) (w .1 h))
+  every-byte = covered in-order
 
   -- Each range lies in the entity and is not empty.
   pub in-entity : Each (InEntity n) (ranges-in v)
-  in-entity = subst (Each (InEntity n)) (sym ranges-are) (each-in n (elements capped ps))
+  in-entity = each-in in-order
 
   -- How many, never none; "none left" exactly where no byte is asked for.
   pub how-many : (count : ℕ) (rs : List Range) → v ≡ satisfiable count rs → (count ≡ length rs) × (0 < count)

@@ -11,49 +11,12 @@ use Rattle.grammar.specs.Grammar.{Part}
 use Rattle.octets.specs.Numbers.{number, Capped, length-limit}
 use Rattle.scans.proofs.Caps.{capped-within, capped-beyond}
 use Rattle.ranges.specs.declared.Element.{Element}
+use Rattle.ranges.specs.declared.Range.{Range}
 use Rattle.ranges.specs.declared.Element.the-variants.{Closed, Open, Suffix}
-use Rattle.ranges.specs.Meaning.{Selects, Covers, Some, Each, begin, end, kept, resolved, InEntity, Served, done, left-out, served}
+use Rattle.ranges.specs.Meaning.{Selects, Covers, Some, Each, begin, end, resolved, InEntity, Served, done, left-out, served}
 use Rattle.ranges.specs.Grammar.{Name, capped, sign?, positions, element-of, elements}
 
--- ## Lists
-
-module _ {A : Type 0} (P : A → Type 0) where
-  some-append : (xs ys : List A) → Some P (xs ++ ys) ↔ (Some P xs ⊎ Some P ys)
-  some-append [] ys = (λ h. inr h, ⊎-elim (λ h. absurd h) (λ h. h))
-  some-append (x ∷ xs) ys = (to (some-append xs ys), back (some-append xs ys))
-    where
-      to : Some P (xs ++ ys) ↔ (Some P xs ⊎ Some P ys) → P x ⊎ Some P (xs ++ ys) → (P x ⊎ Some P xs) ⊎ Some P ys
-      to r (inl h) = inl (inl h)
-      to r (inr h) = ⊎-elim (λ u. inl (inr u)) (λ u. inr u) (r .0 h)
-
-      back : Some P (xs ++ ys) ↔ (Some P xs ⊎ Some P ys) → (P x ⊎ Some P xs) ⊎ Some P ys → P x ⊎ Some P (xs ++ ys)
-      back r (inl (inl h)) = inl h
-      back r (inl (inr h)) = inr (r .1 (inl h))
-      back r (inr h) = inr (r .1 (inr h))
-
-  each-append : (xs ys : List A) → Each P xs → Each P ys → Each P (xs ++ ys)
-  each-append [] ys h k = k
-  each-append (x ∷ xs) ys h k = (h .0, each-append xs ys (h .1) k)
-
 -- ## One element
-
-module _ (p b e : ℕ) where
-  kept-covers : Some (λ r. Covers r p) (kept b e) ↔ ((b ≤ p) × (p < e))
-  kept-covers = go (ltb b e) refl
-    where
-      go : (x : Bool) → ltb b e ≡ x
-          → Some (λ r. Covers r p) (cond x (record { first = b; last = e - 1 } ∷ []) []) ↔ ((b ≤ p) × (p < e))
-      go true f =
-          let h = ltb-true b e f in
-          (λ c. ⊎-elim (λ z. (z .0, omega (arith, z .1))) (λ z. absurd z) c, λ z. inl (z .0, omega (arith, z .1)))
-      go false f = (λ c. absurd c, λ z. absurd (omega (arith, ltb-false b e f, z .0, z .1)))
-
-kept-in : (n b e : ℕ) → e ≤ n → Each (InEntity n) (kept b e)
-kept-in n b e h = go (ltb b e) refl
-  where
-    go : (x : Bool) → ltb b e ≡ x → Each (InEntity n) (cond x (record { first = b; last = e - 1 } ∷ []) [])
-    go true f = let l = ltb-true b e f in ((omega arith, omega arith), tt)
-    go false f = tt
 
 end-in : (n : ℕ) (x : Element) → end n x ≤ n
 end-in n (Closed f l) = omega arith
@@ -113,38 +76,7 @@ module _ (n p : ℕ) (small : n ≤ length-limit) where
       )
       go false = positions-alike (a .text) (b .text)
 
-  -- ## All of them
-
-  pub covered : (ps : List (Part Name))
-      → Some (λ r. Covers r p) (resolved n (elements capped ps)) ↔ Some (λ x. Selects n x p) (elements number ps)
-  covered [] = (λ h. h, λ h. h)
-  covered (a ∷ []) = (λ h. h, λ h. h)
-  covered (a ∷ b ∷ ps) = (to (covered ps), back (covered ps))
-    where
-      x : Element
-      x = element-of capped a b
-
-      Here : Type 0
-      Here = Some (λ r. Covers r p) (resolved n (elements capped ps)) ↔ Some (λ y. Selects n y p) (elements number ps)
-
-      to : Here → Some (λ r. Covers r p) (kept (begin n x) (end n x) ++ resolved n (elements capped ps))
-          → Selects n (element-of number a b) p ⊎ Some (λ y. Selects n y p) (elements number ps)
-      to w h =
-          ⊎-elim (λ u. inl (element-alike a b .0 (spans n p x .0 (kept-covers p (begin n x) (end n x) .0 u)))) (λ u. inr (w .0 u))
-          (some-append (λ r. Covers r p) (kept (begin n x) (end n x)) (resolved n (elements capped ps)) .0 h)
-
-      back : Here → Selects n (element-of number a b) p ⊎ Some (λ y. Selects n y p) (elements number ps)
-          → Some (λ r. Covers r p) (kept (begin n x) (end n x) ++ resolved n (elements capped ps))
-      back w (inl u) =
-          some-append (λ r. Covers r p) (kept (begin n x) (end n x)) (resolved n (elements capped ps)) .1
-          (inl (kept-covers p (begin n x) (end n x) .1 (spans n p x .1 (element-alike a b .1 u))))
-      back w (inr u) =
-          some-append (λ r. Covers r p) (kept (begin n x) (end n x)) (resolved n (elements capped ps)) .1 (inr (w .1 u))
-
-pub each-in : (n : ℕ) (xs : List Element) → Each (InEntity n) (resolved n xs)
-each-in n [] = tt
-each-in n (x ∷ xs) =
-    each-append (InEntity n) (kept (begin n x) (end n x)) (resolved n xs) (kept-in n (begin n x) (end n x) (end-in n x)) (each-in n xs)
+-- ## All of them
 
 -- each element by itself, in their order
 pub serves : (n : ℕ) → n ≤ length-limit → (ps : List (Part Name)) → Served n (elements number ps) (resolved n (elements capped ps))
@@ -174,3 +106,18 @@ serves n small (a ∷ b ∷ ps) = go (ltb (begin n x) (end n x)) refl (serves n 
       where
         none : (p : ℕ) → (begin n x ≤ p) × (p < end n x) → ⊥
         none p s = omega (arith, s .0, s .1, ltb-false (begin n x) (end n x) f)
+
+-- ranges that serve elements hold their bytes, and no others
+pub covered : {n : ℕ} {xs : List Element} {rs : List Range} → Served n xs rs → (p : ℕ)
+    → Some (λ r. Covers r p) rs ↔ Some (λ x. Selects n x p) xs
+covered done p = (λ h. h, λ h. h)
+covered (left-out none w) p = (λ h. inr (covered w p .0 h), λ h. ⊎-elim (λ z. absurd (none p z)) (λ z. covered w p .1 z) h)
+covered (served i same w) p = (
+  λ h. ⊎-elim (λ z. inl (same p .0 z)) (λ z. inr (covered w p .0 z)) h,
+  λ h. ⊎-elim (λ z. inl (same p .1 z)) (λ z. inr (covered w p .1 z)) h,
+)
+
+pub each-in : {n : ℕ} {xs : List Element} {rs : List Range} → Served n xs rs → Each (InEntity n) rs
+each-in done = tt
+each-in (left-out none w) = each-in w
+each-in (served i same w) = (i, each-in w)
