@@ -74,6 +74,7 @@ elements read (a ∷ b ∷ ps) = element-of read a b ∷ elements read ps
 
 -- ## Limits
 
+-- an element begins with such a part
 abbrev pub opens? : Name → Bool
 opens? first = true
 opens? last = false
@@ -98,6 +99,7 @@ last? last = true
 last? sign = false
 last? suffix = false
 
+-- a last position below the first before it; the last two of the parts are such
 abbrev pub backward : Part Name → Part Name → Bool
 backward a b = last? (b .label) && ltb (capped (b .text)) (capped (a .text))
 
