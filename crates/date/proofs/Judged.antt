@@ -25,6 +25,7 @@ use Rattle.calendar.specs.Instants.{seconds-of, located, in-range?}
 use Rattle.calendar.proofs.Demands.{in-range}
 use Rattle.calendar.proofs.Signed.{late, early}
 use Rattle.date.specs.declared.Date.{Date}
+use Rattle.date.specs.Years.{full-year}
 use Rattle.date.specs.Grammar.{fault-of, said, value-of, rules}
 use Rattle.date.specs.helpers.Scan.{judged}
 
@@ -91,15 +92,15 @@ no-fault k f e = go (exists? f) refl e
     go false d e = absurd (let z : _≡_ {A = ℕ} 0 1 = cc in omega arith)
 
 -- what is read is a date that exists, and its seconds
-pub read-is : (s : List ℕ) (v : Verdict Date) → Answers rules s v → (d : Date) → v ≡ value d
+pub read-is : (y : ℕ) (s : List ℕ) (v : Verdict Date) → Answers (rules y) s v → (d : Date) → v ≡ value d
     → (exists? (d .fields) ≡ true) × (d .seconds ≡ seconds-of (d .fields))
-read-is s v (too-long h) d e = absurd (let z : _≡_ {A = ℕ} 0 1 = cc in omega arith)
-read-is s v (malformed h n l t) d e = absurd (let z : _≡_ {A = ℕ} 0 1 = cc in omega arith)
-read-is s v (breaks h b t) d e = absurd (let z : _≡_ {A = ℕ} 0 1 = cc in omega arith)
-read-is s v (faulty h p t f) d e = absurd (let z : _≡_ {A = ℕ} 0 1 = cc in omega arith)
-read-is s v (reads {ps} h p t f) d e =
-    let x : value-of (said ps .fields) ≡ d = same-value e in (
-      ap (λ (y : Date). exists? (y .fields)) (sym x) ∙ no-fault (said ps .named) (said ps .fields) f,
+read-is y s v (too-long h) d e = absurd (let z : _≡_ {A = ℕ} 0 1 = cc in omega arith)
+read-is y s v (malformed h n l t) d e = absurd (let z : _≡_ {A = ℕ} 0 1 = cc in omega arith)
+read-is y s v (breaks h b t) d e = absurd (let z : _≡_ {A = ℕ} 0 1 = cc in omega arith)
+read-is y s v (faulty h p t f) d e = absurd (let z : _≡_ {A = ℕ} 0 1 = cc in omega arith)
+read-is y s v (reads {ps} h p t f) d e =
+    let x : value-of (said (full-year y) ps .fields) ≡ d = same-value e in (
+      ap (λ (y : Date). exists? (y .fields)) (sym x) ∙ no-fault (said (full-year y) ps .named) (said (full-year y) ps .fields) f,
       ap (λ (y : Date). y .seconds) (sym x) ∙ ap (λ (y : Date). seconds-of (y .fields)) x,
     )
   where

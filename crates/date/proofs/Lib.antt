@@ -1,4 +1,5 @@
 pub mod Months
+pub mod Years
 pub mod Demands
 pub mod Tables
 pub mod Judged

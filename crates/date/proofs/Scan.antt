@@ -1,4 +1,4 @@
--- The reader's scans against the grammar: the name of the day, the forms behind it, the month and what follows it.
+-- The reader's scans against the grammar: the name of the day, the forms behind it, the month and what follows it. The present year is y.
 use Prim.Native.Nat.{ℕ, zero, suc, _+_, _-_, _≤_, _<_}
 use native.Mathlib.Omega.{arith}
 use borrow.Author.Tests.{ltb-true, ltb-false, lt-ltb, eqb-true, ne-eqb}
@@ -23,6 +23,7 @@ use Rattle.calendar.specs.declared.Fields.{Fields}
 use Rattle.date.specs.declared.Places.{Places}
 use Rattle.date.specs.declared.Tail.{Tail}
 use Rattle.date.specs.declared.Tail.the-variants.{Month, Stops}
+use Rattle.date.specs.Years.{PresentYear}
 use Rattle.date.specs.Grammar.{Name, weekday, month, day, year, short-year, hour, minute, second, months, rfc1123, rfc850, asctime, forms, rules}
 use Rattle.grammar.specs.helpers.Words.{begins}
 use Rattle.date.specs.Names.{month-names, day-names, first-name}
@@ -39,8 +40,8 @@ blank-digit : digit? 32 ≡ false
 unfolding digit?
 blank-digit = refl
 
-quiet : (n : ℕ) (ps : List (Part Name)) → rules .limit n ps ≡ none
-quiet n ps = refl
+quiet : (y n : ℕ) (ps : List (Part Name)) → rules y .limit n ps ≡ none
+quiet y n ps = refl
 
 -- ## Tables of names as words
 
@@ -144,29 +145,29 @@ months-proper = (refl, refl, refl, tt, (refl, refl, refl, tt, (refl, refl, refl,
 days-proper : proper 3 day-words
 days-proper = (refl, refl, refl, tt, (refl, refl, refl, tt, (refl, refl, refl, tt, (refl, refl, refl, tt, (refl, refl, refl, tt, (refl, refl, refl, tt, (refl, refl, refl, tt, tt)))))))
 
-module _ (s : List ℕ) (cs : List (Part Name)) where
+module _ (y : ℕ) (s : List ℕ) (cs : List (Part Name)) where
   -- an empty part says which name it was
   marked : (l : Name) (g : Grammar Name) → live g ≡ true → (i : ℕ)
-      → from rules s (ahead cs (then (part l empty) g)) i ≡ from rules s (ahead (cs ++ record { label = l; start = i; text = [] } ∷ []) g) i
-  marked l g v i = part-begins rules s cs g v l empty i ∙ part-ends rules s cs g v (record { label = l; start = i; text = [] }) empty i (λ at. refl) refl refl
+      → from (rules y) s (ahead cs (then (part l empty) g)) i ≡ from (rules y) s (ahead (cs ++ record { label = l; start = i; text = [] } ∷ []) g) i
+  marked l g v i = part-begins (rules y) s cs g v l empty i ∙ part-ends (rules y) s cs g v (record { label = l; start = i; text = [] }) empty i (λ at. refl) refl refl
 
   module _ (g : Grammar Name) (v : live g ≡ true) (firm : (x : Grammar Name) → then x g ≡ x ⨾ g) (i : ℕ) where
     month-found : (k : ℕ) → first-name 1 month-names (drop i s) ≡ suc k
-        → from rules s (ahead cs (months ⨾ g)) i ≡ from rules s (ahead (cs ++ record { label = month (suc k); start = i + 3; text = [] } ∷ []) g) (i + 3)
+        → from (rules y) s (ahead cs (months ⨾ g)) i ≡ from (rules y) s (ahead (cs ++ record { label = month (suc k); start = i + 3; text = [] } ∷ []) g) (i + 3)
     month-found k e =
-        ap (λ (x : Grammar Name). from rules s (ahead cs x) i) (sym (firm months))
-        ∙ word-found rules s quiet cs (λ x. seq x g) (seq-tail g v firm) 3 month-words months-proper i (named-month k)
+        ap (λ (x : Grammar Name). from (rules y) s (ahead cs x) i) (sym (firm months))
+        ∙ word-found (rules y) s (quiet y) cs (λ x. seq x g) (seq-tail g v firm) 3 month-words months-proper i (named-month k)
         (find-names named-month (drop i s) month-names tt 0 ∙ ap (mapped named-month) e)
         ∙ marked (month (suc k)) g v (i + 3)
 
-    month-missed : first-name 1 month-names (drop i s) ≡ 0 → from rules s (ahead cs (months ⨾ g)) i ≡ refused 1 (i + longest month-names (drop i s))
+    month-missed : first-name 1 month-names (drop i s) ≡ 0 → from (rules y) s (ahead cs (months ⨾ g)) i ≡ refused 1 (i + longest month-names (drop i s))
     month-missed e =
-        ap (λ (x : Grammar Name). from rules s (ahead cs x) i) (sym (firm months))
+        ap (λ (x : Grammar Name). from (rules y) s (ahead cs x) i) (sym (firm months))
         ∙ missed ∙ ap (λ (n : ℕ). refused 1 (i + n)) (nearest-names named-month (drop i s) month-names tt 0)
       where
-        missed : from rules s (ahead cs (seq (choice month-words) g)) i ≡ refused 1 (i + nearest month-words (drop i s))
+        missed : from (rules y) s (ahead cs (seq (choice month-words) g)) i ≡ refused 1 (i + nearest month-words (drop i s))
         missed =
-            none-found rules s quiet cs (λ x. seq x g) (seq-tail g v firm) 3 month-words months-proper tt i
+            none-found (rules y) s (quiet y) cs (λ x. seq x g) (seq-tail g v firm) 3 month-words months-proper tt i
             (find-names named-month (drop i s) month-names tt 0 ∙ ap (mapped named-month) e)
 
 over-length : (xs : List (Item Name)) (i : ℕ) → over xs i ≡ i + length (shape xs)
@@ -182,9 +183,9 @@ over-length (num l n ∷ xs) i = over-length xs (i + suc n) ∙ sum (shape xs) (
     sum w e = omega arith
 
 -- a month at `at`, and behind it the line xs, or a grammar that is the same there
-module _ (s : List ℕ) (cs : List (Part Name)) (xs : List (Item Name)) (good : T (sound xs)) (some-shape : 0 < length (shape xs)) (g : Grammar Name) (v : live g ≡ true)
+module _ (y : ℕ) (s : List ℕ) (cs : List (Part Name)) (xs : List (Item Name)) (good : T (sound xs)) (some-shape : 0 < length (shape xs)) (g : Grammar Name) (v : live g ≡ true)
     (firm : (x : Grammar Name) → then x g ≡ x ⨾ g) (at : ℕ)
-    (same : (ds : List (Part Name)) → from rules s (ahead ds g) (at + 3) ≡ from rules s (ahead ds (line xs empty)) (at + 3)) where
+    (same : (ds : List (Part Name)) → from (rules y) s (ahead ds g) (at + 3) ≡ from (rules y) s (ahead ds (line xs empty)) (at + 3)) where
   abbrev n : ℕ
   n = fitting (shape xs) (drop (at + 3) s)
 
@@ -192,31 +193,31 @@ module _ (s : List ℕ) (cs : List (Part Name)) (xs : List (Item Name)) (good : 
   month-part m = record { label = month m; start = at + 3; text = [] }
 
   abbrev pub Reads : Tail → Type 0
-  Reads (Stops p) = from rules s (ahead cs (months ⨾ g)) at ≡ refused 1 p
-  Reads (Month m) = (from rules s (ahead cs (months ⨾ g)) at ≡ finished rules ((cs ++ month-part m ∷ []) ++ parts s xs (at + 3)))
+  Reads (Stops p) = from (rules y) s (ahead cs (months ⨾ g)) at ≡ refused 1 p
+  Reads (Month m) = (from (rules y) s (ahead cs (months ⨾ g)) at ≡ finished (rules y) ((cs ++ month-part m ∷ []) ++ parts s xs (at + 3)))
       × (length s ≡ at + 3 + length (shape xs))
 
   module _ (k : ℕ) (h : first-name 1 month-names (drop at s) ≡ suc k) where
     abbrev ds : List (Part Name)
     ds = cs ++ month-part (suc k) ∷ []
 
-    lined : Lined rules s quiet (cs ++ month-part (suc k) ∷ []) xs empty (at + 3)
-    lined = line-reads rules s quiet xs empty good refl refl ds (at + 3)
+    lined : Lined (rules y) s (quiet y) (cs ++ month-part (suc k) ∷ []) xs empty (at + 3)
+    lined = line-reads (rules y) s (quiet y) xs empty good refl refl ds (at + 3)
 
-    behind-month : from rules s (ahead cs (months ⨾ g)) at ≡ from rules s (ahead (cs ++ month-part (suc k) ∷ []) (line xs empty)) (at + 3)
-    behind-month = month-found s cs g v firm at k h ∙ same ds
+    behind-month : from (rules y) s (ahead cs (months ⨾ g)) at ≡ from (rules y) s (ahead (cs ++ month-part (suc k) ∷ []) (line xs empty)) (at + 3)
+    behind-month = month-found y s cs g v firm at k h ∙ same ds
 
     by-end : fitting (shape xs) (drop (at + 3) s) ≡ length (shape xs) → (t : Bool) → ltb (at + 3 + n) (length s) ≡ t
         → Reads (cond t (Stops (at + 3 + n)) (Month (suc k)))
     by-end e true f =
         let q : over xs (at + 3) ≡ at + 3 + n = over-length xs (at + 3) ∙ ap (λ (m : ℕ). at + 3 + m) (sym e) in
         behind-month ∙ lined .0 e
-        ∙ goes-too-far rules s (ds ++ parts s xs (at + 3)) (over xs (at + 3)) (omega (arith, ltb-true (at + 3 + n) (length s) f))
+        ∙ goes-too-far (rules y) s (ds ++ parts s xs (at + 3)) (over xs (at + 3)) (omega (arith, ltb-true (at + 3 + n) (length s) f))
         ∙ ap (refused 1) q
     by-end e false f =
         let q = over-length xs (at + 3) in
         let low = ltb-false (at + 3 + n) (length s) f in (
-          behind-month ∙ lined .0 e ∙ ends-well rules s (ds ++ parts s xs (at + 3)) (over xs (at + 3)) (omega arith),
+          behind-month ∙ lined .0 e ∙ ends-well (rules y) s (ds ++ parts s xs (at + 3)) (over xs (at + 3)) (omega arith),
           omega (arith, fit-inside (shape xs) (drop (at + 3) s), length-drop (at + 3) s),
         )
 
@@ -231,7 +232,7 @@ module _ (s : List ℕ) (cs : List (Part Name)) (xs : List (Item Name)) (good : 
   tail-reads = by-month (first-name 1 month-names (drop at s)) refl
     where
       by-month : (m : ℕ) → first-name 1 month-names (drop at s) ≡ m → Reads (tail-of s at (length (shape xs)) m n)
-      by-month zero e = month-missed s cs g v firm at e
+      by-month zero e = month-missed y s cs g v firm at e
       by-month (suc k) e =
           subst (λ (t : Bool). Reads (cond t (Stops (at + longest month-names (drop at s))) (found k))) (sym (ne-eqb (suc k) 0 (λ z. omega arith)))
           (by-shape k e (ltb n (length (shape xs))) refl)
@@ -246,36 +247,37 @@ abbrev form-parts : (s : List ℕ) (k : ℕ) (hx tx : List (Item Name)) (m : ℕ
 form-parts s k hx tx m =
     ((day-part k ∷ parts s hx 3) ++ record { label = month m; start = over hx 3 + 3; text = [] } ∷ []) ++ parts s tx (over hx 3 + 3)
 
-module _ (s : List ℕ) (k : ℕ) (hx : List (Item Name)) (hs : T (sound hx)) (tx : List (Item Name)) (ts : T (sound tx)) (some-tail : 0 < length (shape tx))
+module _ (y : ℕ) (s : List ℕ) (k : ℕ) (hx : List (Item Name)) (hs : T (sound hx)) (tx : List (Item Name)) (ts : T (sound tx)) (some-tail : 0 < length (shape tx))
     (g : Grammar Name) (v : live g ≡ true) (c : held g ≡ []) (firm : (x : Grammar Name) → then x g ≡ x ⨾ g)
-    (same : (ds : List (Part Name)) → from rules s (ahead ds g) (over hx 3 + 3) ≡ from rules s (ahead ds (line tx empty)) (over hx 3 + 3))
-    (reads : header rules s ≡ from rules s (ahead (day-part k ∷ []) (line hx (months ⨾ g))) 3) where
-  head-stops : fitting (shape hx) (drop 3 s) < length (shape hx) → header rules s ≡ refused 1 (3 + fitting (shape hx) (drop 3 s))
-  head-stops h = reads ∙ line-reads rules s quiet hx (months ⨾ g) hs v c (day-part k ∷ []) 3 .1 h
+    (same : (ds : List (Part Name)) → from (rules y) s (ahead ds g) (over hx 3 + 3) ≡ from (rules y) s (ahead ds (line tx empty)) (over hx 3 + 3))
+    (reads : header (rules y) s ≡ from (rules y) s (ahead (day-part k ∷ []) (line hx (months ⨾ g))) 3) where
+  head-stops : fitting (shape hx) (drop 3 s) < length (shape hx) → header (rules y) s ≡ refused 1 (3 + fitting (shape hx) (drop 3 s))
+  head-stops h = reads ∙ line-reads (rules y) s (quiet y) hx (months ⨾ g) hs v c (day-part k ∷ []) 3 .1 h
 
   module _ (fit : fitting (shape hx) (drop 3 s) ≡ length (shape hx)) where
-    behind : header rules s ≡ from rules s (ahead (day-part k ∷ parts s hx 3) (months ⨾ g)) (over hx 3)
-    behind = reads ∙ line-reads rules s quiet hx (months ⨾ g) hs v c (day-part k ∷ []) 3 .0 fit
+    behind : header (rules y) s ≡ from (rules y) s (ahead (day-part k ∷ parts s hx 3) (months ⨾ g)) (over hx 3)
+    behind = reads ∙ line-reads (rules y) s (quiet y) hx (months ⨾ g) hs v c (day-part k ∷ []) 3 .0 fit
 
     abbrev Found : Tail → Type 0
-    Found = Reads s (day-part k ∷ parts s hx 3) tx ts some-tail g v firm (over hx 3) same
+    Found = Reads y s (day-part k ∷ parts s hx 3) tx ts some-tail g v firm (over hx 3) same
 
     found : Found (month-then (shape tx) s (over hx 3))
-    found = tail-reads s (day-part k ∷ parts s hx 3) tx ts some-tail g v firm (over hx 3) same
+    found = tail-reads y s (day-part k ∷ parts s hx 3) tx ts some-tail g v firm (over hx 3) same
 
-    stops-at : (q : ℕ) → month-then (shape tx) s (over hx 3) ≡ Stops q → header rules s ≡ refused 1 q
+    stops-at : (q : ℕ) → month-then (shape tx) s (over hx 3) ≡ Stops q → header (rules y) s ≡ refused 1 q
     stops-at q e = behind ∙ subst Found e found
 
     ends-as : (m : ℕ) → month-then (shape tx) s (over hx 3) ≡ Month m
-        → (header rules s ≡ finished rules (form-parts s k hx tx m)) × (length s ≡ over hx 3 + 3 + length (shape tx))
+        → (header (rules y) s ≡ finished (rules y) (form-parts s k hx tx m)) × (length s ≡ over hx 3 + 3 + length (shape tx))
     ends-as m e =
         let r = subst Found e found in
         (behind ∙ r .0, r .1)
 
-    form-ending : (p : Places) → over hx 3 ≡ p .month → p .month + length (shape tx) < 8192
-        → ((m : ℕ) → length s ≡ over hx 3 + 3 + length (shape tx) → finished rules (form-parts s k hx tx m) ≡ judged k (fields-from s m p))
-        → (length s ≡ over hx 3 + 3 + length (shape tx) → Inside s p) → Ending s k (shape tx) p
-    form-ending p at room says inside = record {
+    form-ending : PresentYear y → (p : Places) → over hx 3 ≡ p .month → p .month + length (shape tx) < 8192
+        → ((m : ℕ) → length s ≡ over hx 3 + 3 + length (shape tx) → finished (rules y) (form-parts s k hx tx m) ≡ judged k (fields-from y s m p))
+        → (length s ≡ over hx 3 + 3 + length (shape tx) → Inside s p) → Ending y s k (shape tx) p
+    form-ending within p at room says inside = record {
+      within = within;
       room = room;
       stops = λ q e. stops-at q (rw at e);
       ends = λ m e. let r = ends-as m (rw at e) in r .0 ∙ says m (r .1);
@@ -299,14 +301,14 @@ rfc1123-tail = is 32 tt ∷ num year 3 ∷ is 32 tt ∷ clock gmt-items
 abbrev pub rfc1123-places : Places
 rfc1123-places = record { month = 8; year = 12; short = false; day = 5; time = 17 }
 
-module _ (s : List ℕ) (k : ℕ) (a : Goes rfc1123 s k) where
-  rfc1123-stops : fitting (shape rfc1123-head) (drop 3 s) < 5 → header rules s ≡ refused 1 (3 + fitting (shape rfc1123-head) (drop 3 s))
-  rfc1123-stops = head-stops s k rfc1123-head tt rfc1123-tail tt (omega arith) (line rfc1123-tail empty) refl refl (λ x. refl) (λ ds. refl) (a .reads)
+module _ (y : ℕ) (s : List ℕ) (k : ℕ) (a : Goes y rfc1123 s k) where
+  rfc1123-stops : fitting (shape rfc1123-head) (drop 3 s) < 5 → header (rules y) s ≡ refused 1 (3 + fitting (shape rfc1123-head) (drop 3 s))
+  rfc1123-stops = head-stops y s k rfc1123-head tt rfc1123-tail tt (omega arith) (line rfc1123-tail empty) refl refl (λ x. refl) (λ ds. refl) (a .reads)
 
-  rfc1123-ending : fitting (shape rfc1123-head) (drop 3 s) ≡ 5 → Ending s k (shape rfc1123-tail) rfc1123-places
+  rfc1123-ending : fitting (shape rfc1123-head) (drop 3 s) ≡ 5 → Ending y s k (shape rfc1123-tail) rfc1123-places
   unfolding judged
   rfc1123-ending f =
-      form-ending s k rfc1123-head tt rfc1123-tail tt (omega arith) (line rfc1123-tail empty) refl refl (λ x. refl) (λ ds. refl) (a .reads) f rfc1123-places
+      form-ending y s k rfc1123-head tt rfc1123-tail tt (omega arith) (line rfc1123-tail empty) refl refl (λ x. refl) (λ ds. refl) (a .reads) f (a .within) rfc1123-places
       refl (omega arith) (λ m l. refl) (λ l. (omega arith, omega arith, omega arith))
 
 -- RFC 850: the rest of a long name before the items xs
@@ -323,37 +325,37 @@ rfc850-tail = is 45 tt ∷ num short-year 1 ∷ is 32 tt ∷ clock gmt-items
 abbrev pub rfc850-places : ℕ → Places
 rfc850-places at = record { month = at; year = at + 4; short = true; day = at - 3; time = at + 7 }
 
-abbrev Rfc850Reads : List ℕ → ℕ → Type 0
-Rfc850Reads s k =
-    (fitting (rfc850-head k) (drop 3 s) < length (rfc850-head k) → header rules s ≡ refused 1 (3 + fitting (rfc850-head k) (drop 3 s)))
-    × (fitting (rfc850-head k) (drop 3 s) ≡ length (rfc850-head k) → Ending s k (shape rfc850-tail) (rfc850-places (3 + length (rfc850-head k))))
+abbrev Rfc850Reads : ℕ → List ℕ → ℕ → Type 0
+Rfc850Reads y s k =
+    (fitting (rfc850-head k) (drop 3 s) < length (rfc850-head k) → header (rules y) s ≡ refused 1 (3 + fitting (rfc850-head k) (drop 3 s)))
+    × (fitting (rfc850-head k) (drop 3 s) ≡ length (rfc850-head k) → Ending y s k (shape rfc850-tail) (rfc850-places (3 + length (rfc850-head k))))
 
 -- that the line has the head's shape and places holds by computing, for each day
-module _ (s : List ℕ) (k : ℕ) where
+module _ (y : ℕ) (s : List ℕ) (k : ℕ) where
   abbrev hx : List (Item Name)
   hx = rest-items (rest-of k) (rest-bytes k) rfc850-items
 
   abbrev at : ℕ
   at = 3 + length (rfc850-head k)
 
-  rfc850-line : T (sound hx) → header rules s ≡ from rules s (ahead (day-part k ∷ []) (line hx (months ⨾ line rfc850-tail empty))) 3
+  rfc850-line : PresentYear y → T (sound hx) → header (rules y) s ≡ from (rules y) s (ahead (day-part k ∷ []) (line hx (months ⨾ line rfc850-tail empty))) 3
       → shape hx ≡ rfc850-head k → over hx 3 ≡ at → length (rfc850-head k) ≤ 11
-      → ((m : ℕ) → finished rules (form-parts s k hx rfc850-tail m) ≡ judged k (fields-from s m (rfc850-places at))) → Rfc850Reads s k
-  rfc850-line hs reads shape-is at-is low says = (
-    λ h. rw shape-is at (head-stops s k hx hs rfc850-tail tt (omega arith) (line rfc850-tail empty) refl refl (λ x. refl) (λ ds. refl) reads (rw shape-is h)),
-    λ f. form-ending s k hx hs rfc850-tail tt (omega arith) (line rfc850-tail empty) refl refl (λ x. refl) (λ ds. refl) reads (rw shape-is f) (rfc850-places at)
+      → ((m : ℕ) → finished (rules y) (form-parts s k hx rfc850-tail m) ≡ judged k (fields-from y s m (rfc850-places at))) → Rfc850Reads y s k
+  rfc850-line within hs reads shape-is at-is low says = (
+    λ h. rw shape-is at (head-stops y s k hx hs rfc850-tail tt (omega arith) (line rfc850-tail empty) refl refl (λ x. refl) (λ ds. refl) reads (rw shape-is h)),
+    λ f. form-ending y s k hx hs rfc850-tail tt (omega arith) (line rfc850-tail empty) refl refl (λ x. refl) (λ ds. refl) reads (rw shape-is f) within (rfc850-places at)
         at-is (omega arith) (λ m l. says m) (λ l. (omega arith, omega arith, omega arith)),
   )
 
-rfc850-reads : (s : List ℕ) (k : ℕ) → AtRfc850 s k → Rfc850Reads s k
+rfc850-reads : (y : ℕ) (s : List ℕ) (k : ℕ) → AtRfc850 y s k → Rfc850Reads y s k
 unfolding judged
-rfc850-reads s zero a = rfc850-line s zero tt (a .reads) refl refl (omega arith) (λ m. refl)
-rfc850-reads s (suc zero) a = rfc850-line s (suc zero) tt (a .reads) refl refl (omega arith) (λ m. refl)
-rfc850-reads s (suc (suc zero)) a = rfc850-line s (suc (suc zero)) tt (a .reads) refl refl (omega arith) (λ m. refl)
-rfc850-reads s (suc (suc (suc zero))) a = rfc850-line s (suc (suc (suc zero))) tt (a .reads) refl refl (omega arith) (λ m. refl)
-rfc850-reads s (suc (suc (suc (suc zero)))) a = rfc850-line s (suc (suc (suc (suc zero)))) tt (a .reads) refl refl (omega arith) (λ m. refl)
-rfc850-reads s (suc (suc (suc (suc (suc zero))))) a = rfc850-line s (suc (suc (suc (suc (suc zero))))) tt (a .reads) refl refl (omega arith) (λ m. refl)
-rfc850-reads s (suc (suc (suc (suc (suc (suc j)))))) a = rfc850-line s (suc (suc (suc (suc (suc (suc j)))))) tt (a .reads) refl refl (omega arith) (λ m. refl)
+rfc850-reads y s zero a = rfc850-line y s zero (a .within) tt (a .reads) refl refl (omega arith) (λ m. refl)
+rfc850-reads y s (suc zero) a = rfc850-line y s (suc zero) (a .within) tt (a .reads) refl refl (omega arith) (λ m. refl)
+rfc850-reads y s (suc (suc zero)) a = rfc850-line y s (suc (suc zero)) (a .within) tt (a .reads) refl refl (omega arith) (λ m. refl)
+rfc850-reads y s (suc (suc (suc zero))) a = rfc850-line y s (suc (suc (suc zero))) (a .within) tt (a .reads) refl refl (omega arith) (λ m. refl)
+rfc850-reads y s (suc (suc (suc (suc zero)))) a = rfc850-line y s (suc (suc (suc (suc zero)))) (a .within) tt (a .reads) refl refl (omega arith) (λ m. refl)
+rfc850-reads y s (suc (suc (suc (suc (suc zero))))) a = rfc850-line y s (suc (suc (suc (suc (suc zero))))) (a .within) tt (a .reads) refl refl (omega arith) (λ m. refl)
+rfc850-reads y s (suc (suc (suc (suc (suc (suc j)))))) a = rfc850-line y s (suc (suc (suc (suc (suc (suc j)))))) (a .within) tt (a .reads) refl refl (omega arith) (λ m. refl)
 
 -- asctime
 abbrev year-end : List (Item Name)
@@ -375,20 +377,6 @@ abbrev pub asctime-places : Places
 asctime-places = record { month = 4; year = 20; short = false; day = 8; time = 11 }
 
 module _ (s : List ℕ) where
-  -- a byte leads to grammars that are judged alike
-  same-behind : (ds : List (Part Name)) (b : ℕ) (p : T (ltb b 256)) (g h : Grammar Name) → live g ≡ true → live h ≡ true → (i : ℕ)
-      → from rules s (ahead ds g) (i + 1) ≡ from rules s (ahead ds h) (i + 1) → from rules s (ahead ds (byte (just b p) ⨾ g)) i ≡ from rules s (ahead ds (byte (just b p) ⨾ h)) i
-  same-behind ds b p g h v w i e = go (ltb i (length s)) refl
-    where
-      go : (t : Bool) → ltb i (length s) ≡ t → from rules s (ahead ds (byte (just b p) ⨾ g)) i ≡ from rules s (ahead ds (byte (just b p) ⨾ h)) i
-      go false f = first-none rules s ds (just b p) g v i (ltb-false i (length s) f) ∙ sym (first-none rules s ds (just b p) h w i (ltb-false i (length s) f))
-      go true f = is-it (eqb (getD s i 0) b) refl
-        where
-          is-it : (t : Bool) → eqb (getD s i 0) b ≡ t → from rules s (ahead ds (byte (just b p) ⨾ g)) i ≡ from rules s (ahead ds (byte (just b p) ⨾ h)) i
-          is-it true q =
-              first-is rules s ds (just b p) g v i (ltb-true i (length s) f) q refl ∙ e ∙ sym (first-is rules s ds (just b p) h w i (ltb-true i (length s) f) q refl)
-          is-it false q = first-not rules s ds (just b p) g v i (ltb-true i (length s) f) q ∙ sym (first-not rules s ds (just b p) h w i (ltb-true i (length s) f) q)
-
   standing-is : (i b : ℕ) → standing s i b ≡ true → (i < length s) × (getD s i 0 ≡ b)
   standing-is i b e = go (ltb i (length s)) refl e
     where
@@ -399,32 +387,47 @@ module _ (s : List ℕ) where
   standing-not : (i b : ℕ) → standing s i b ≡ false → i < length s → eqb (getD s i 0) b ≡ false
   standing-not i b e at = rw (lt-ltb i (length s) at) at e
 
-  blank-day : standing s 8 32 ≡ true → (ds : List (Part Name)) → from rules s (ahead ds (two-day ∣ one-day)) 8 ≡ from rules s (ahead ds one-day) 8
-  blank-day e ds = same-judge rules s ds (two-day ∣ one-day) one-day 8 (λ at. rw (standing-is 8 32 e .1) blank-deriv) refl refl
+module _ (y : ℕ) (s : List ℕ) where
+  -- a byte leads to grammars that are judged alike
+  same-behind : (ds : List (Part Name)) (b : ℕ) (p : T (ltb b 256)) (g h : Grammar Name) → live g ≡ true → live h ≡ true → (i : ℕ)
+      → from (rules y) s (ahead ds g) (i + 1) ≡ from (rules y) s (ahead ds h) (i + 1) → from (rules y) s (ahead ds (byte (just b p) ⨾ g)) i ≡ from (rules y) s (ahead ds (byte (just b p) ⨾ h)) i
+  same-behind ds b p g h v w i e = go (ltb i (length s)) refl
+    where
+      go : (t : Bool) → ltb i (length s) ≡ t → from (rules y) s (ahead ds (byte (just b p) ⨾ g)) i ≡ from (rules y) s (ahead ds (byte (just b p) ⨾ h)) i
+      go false f = first-none (rules y) s ds (just b p) g v i (ltb-false i (length s) f) ∙ sym (first-none (rules y) s ds (just b p) h w i (ltb-false i (length s) f))
+      go true f = is-it (eqb (getD s i 0) b) refl
+        where
+          is-it : (t : Bool) → eqb (getD s i 0) b ≡ t → from (rules y) s (ahead ds (byte (just b p) ⨾ g)) i ≡ from (rules y) s (ahead ds (byte (just b p) ⨾ h)) i
+          is-it true q =
+              first-is (rules y) s ds (just b p) g v i (ltb-true i (length s) f) q refl ∙ e ∙ sym (first-is (rules y) s ds (just b p) h w i (ltb-true i (length s) f) q refl)
+          is-it false q = first-not (rules y) s ds (just b p) g v i (ltb-true i (length s) f) q ∙ sym (first-not (rules y) s ds (just b p) h w i (ltb-true i (length s) f) q)
+
+  blank-day : standing s 8 32 ≡ true → (ds : List (Part Name)) → from (rules y) s (ahead ds (two-day ∣ one-day)) 8 ≡ from (rules y) s (ahead ds one-day) 8
+  blank-day e ds = same-judge (rules y) s ds (two-day ∣ one-day) one-day 8 (λ at. rw (standing-is s 8 32 e .1) blank-deriv) refl refl
     where
       blank-deriv : deriv (two-day ∣ one-day) 8 32 ≡ deriv one-day 8 32
       blank-deriv = rw blank-digit
 
-  full-day : standing s 8 32 ≡ false → (ds : List (Part Name)) → from rules s (ahead ds (two-day ∣ one-day)) 8 ≡ from rules s (ahead ds two-day) 8
+  full-day : standing s 8 32 ≡ false → (ds : List (Part Name)) → from (rules y) s (ahead ds (two-day ∣ one-day)) 8 ≡ from (rules y) s (ahead ds two-day) 8
   full-day e ds =
-      same-judge rules s ds (two-day ∣ one-day) two-day 8 (λ at. rw (standing-not 8 32 e at) (alt-void (deriv two-day 8 (getD s 8 0)))) refl refl
+      same-judge (rules y) s ds (two-day ∣ one-day) two-day 8 (λ at. rw (standing-not s 8 32 e at) (alt-void (deriv two-day 8 (getD s 8 0)))) refl refl
 
 -- what stands behind the month
 abbrev day-and-clock : Grammar Name
 day-and-clock = byte (just 32 tt) ⨾ (two-day ∣ one-day)
 
-module _ (s : List ℕ) (k : ℕ) (a : Goes asctime s k) where
-  asctime-stops : fitting (32 ∷ []) (drop 3 s) < 1 → header rules s ≡ refused 1 3
+module _ (y : ℕ) (s : List ℕ) (k : ℕ) (a : Goes y asctime s k) where
+  asctime-stops : fitting (32 ∷ []) (drop 3 s) < 1 → header (rules y) s ≡ refused 1 3
   asctime-stops h =
       let z : 3 + fitting (32 ∷ []) (drop 3 s) ≡ 3 = omega arith in
-      a .reads ∙ line-reads rules s quiet (is 32 tt ∷ []) (months ⨾ day-and-clock) tt refl refl (day-part k ∷ []) 3 .1 h ∙ ap (refused 1) z
+      a .reads ∙ line-reads (rules y) s (quiet y) (is 32 tt ∷ []) (months ⨾ day-and-clock) tt refl refl (day-part k ∷ []) 3 .1 h ∙ ap (refused 1) z
 
   module _ (fit : fitting (32 ∷ []) (drop 3 s) ≡ 1) where
-    two-ending : standing s 8 32 ≡ false → Ending s k (shape two-tail) asctime-places
+    two-ending : standing s 8 32 ≡ false → Ending y s k (shape two-tail) asctime-places
     unfolding judged
     two-ending full =
-        form-ending s k (is 32 tt ∷ []) tt two-tail tt (omega arith) day-and-clock refl refl (λ x. refl)
-        (λ ds. same-behind s ds 32 tt (two-day ∣ one-day) two-day refl refl 7 (full-day s full ds)) (a .reads) fit asctime-places
+        form-ending y s k (is 32 tt ∷ []) tt two-tail tt (omega arith) day-and-clock refl refl (λ x. refl)
+        (λ ds. same-behind y s ds 32 tt (two-day ∣ one-day) two-day refl refl 7 (full-day y s full ds)) (a .reads) fit (a .within) asctime-places
         refl (omega arith) (λ m l. refl) (λ l. (omega arith, omega arith, omega arith))
 
     -- a blank before the day counts as 0
@@ -443,11 +446,11 @@ module _ (s : List ℕ) (k : ℕ) (a : Goes asctime s k) where
       second = number (slice s 17 19);
     }
 
-    one-ending : standing s 8 32 ≡ true → Ending s k (shape one-tail) asctime-places
+    one-ending : standing s 8 32 ≡ true → Ending y s k (shape one-tail) asctime-places
     unfolding judged
     one-ending blank =
-        form-ending s k (is 32 tt ∷ []) tt one-tail tt (omega arith) day-and-clock refl refl (λ x. refl)
-        (λ ds. same-behind s ds 32 tt (two-day ∣ one-day) one-day refl refl 7 (blank-day s blank ds)) (a .reads) fit asctime-places
+        form-ending y s k (is 32 tt ∷ []) tt one-tail tt (omega arith) day-and-clock refl refl (λ x. refl)
+        (λ ds. same-behind y s ds 32 tt (two-day ∣ one-day) one-day refl refl 7 (blank-day y s blank ds)) (a .reads) fit (a .within) asctime-places
         refl (omega arith) (λ m l. ap (λ (d : ℕ). judged k (with-day m d)) (blank-number blank l)) (λ l. (omega arith, omega arith, omega arith))
 
 -- ## The name of the day, and which form follows it
@@ -464,11 +467,11 @@ long-shut (suc (suc (suc (suc zero)))) = (refl, refl, refl, refl)
 long-shut (suc (suc (suc (suc (suc zero))))) = (refl, refl, refl, refl)
 long-shut (suc (suc (suc (suc (suc (suc j)))))) = (refl, refl, refl, refl)
 
-module _ (s : List ℕ) (k : ℕ) (a : AfterDay s k) where
+module _ (y : ℕ) (s : List ℕ) (k : ℕ) (a : AfterDay y s k) where
   -- the forms go on as g does, where they agree on the byte at 3 and on the end
   to : (g : Grammar Name) → (3 < length s → deriv (forms (rest-of k) (rest-bytes k)) 3 (getD s 3 0) ≡ deriv g 3 (getD s 3 0))
-      → nullable (forms (rest-of k) (rest-bytes k)) ≡ nullable g → ends (forms (rest-of k) (rest-bytes k)) 3 ≡ ends g 3 → Goes g s k
-  to g d n e = record { short = a .short; reads = a .reads ∙ same-judge rules s (day-part k ∷ []) (forms (rest-of k) (rest-bytes k)) g 3 d n e }
+      → nullable (forms (rest-of k) (rest-bytes k)) ≡ nullable g → ends (forms (rest-of k) (rest-bytes k)) 3 ≡ ends g 3 → Goes y g s k
+  to g d n e = record { within = a .within; short = a .short; reads = a .reads ∙ same-judge (rules y) s (day-part k ∷ []) (forms (rest-of k) (rest-bytes k)) g 3 d n e }
 
   no-text : nullable (forms (rest-of k) (rest-bytes k)) ≡ false
   no-text = ap (λ (t : Bool). false || (t || false)) (long-shut k .2)
@@ -476,13 +479,13 @@ module _ (s : List ℕ) (k : ℕ) (a : AfterDay s k) where
   no-end : ends (forms (rest-of k) (rest-bytes k)) 3 ≡ void
   no-end = ap (λ (x : Grammar Name). alt void (alt x void)) (long-shut k .3)
 
-  pub goes-rfc1123 : standing s 3 44 ≡ true → Goes rfc1123 s k
+  pub goes-rfc1123 : standing s 3 44 ≡ true → Goes y rfc1123 s k
   goes-rfc1123 e = to rfc1123 (λ at. rw (standing-is s 3 44 e .1, long-shut k .0) (alt-void (deriv rfc1123 3 44))) no-text no-end
 
-  pub goes-asctime : standing s 3 32 ≡ true → Goes asctime s k
+  pub goes-asctime : standing s 3 32 ≡ true → Goes y asctime s k
   goes-asctime e = to asctime (λ at. rw (standing-is s 3 32 e .1, long-shut k .1)) no-text no-end
 
-  pub goes-long : standing s 3 44 ≡ false → standing s 3 32 ≡ false → AtRfc850 s k
+  pub goes-long : standing s 3 44 ≡ false → standing s 3 32 ≡ false → AtRfc850 y s k
   goes-long e f =
       to (long k) (λ at. rw (standing-not s 3 44 e at, standing-not s 3 32 f at) (alt-void (deriv (long k) 3 (getD s 3 0))))
       (or-none (nullable (long k))) (alt-void (ends (long k) 3))
@@ -491,21 +494,22 @@ module _ (s : List ℕ) (k : ℕ) (a : AfterDay s k) where
       or-none true = refl
       or-none false = refl
 
-module _ (s : List ℕ) (short : length s ≤ 8192) where
-  pub day-found : (k : ℕ) → first-name 1 day-names (drop 0 s) ≡ suc k → AfterDay s k
+module _ (y : ℕ) (within : PresentYear y) (s : List ℕ) (short : length s ≤ 8192) where
+  pub day-found : (k : ℕ) → first-name 1 day-names (drop 0 s) ≡ suc k → AfterDay y s k
   day-found k e = record {
+    within = within;
     short = short;
     reads =
-        header-short rules s short
-        ∙ word-found rules s quiet [] (λ x. x) no-tail 3 day-words days-proper 0 (named-day k)
+        header-short (rules y) s short
+        ∙ word-found (rules y) s (quiet y) [] (λ x. x) no-tail 3 day-words days-proper 0 (named-day k)
         (find-names named-day (drop 0 s) day-names tt 0 ∙ ap (mapped named-day) e)
-        ∙ marked s [] (weekday k) (forms (rest-of k) (rest-bytes k)) refl 3;
+        ∙ marked y s [] (weekday k) (forms (rest-of k) (rest-bytes k)) refl 3;
   }
 
-  pub day-missed : first-name 1 day-names (drop 0 s) ≡ 0 → header rules s ≡ refused 1 (longest day-names (drop 0 s))
+  pub day-missed : first-name 1 day-names (drop 0 s) ≡ 0 → header (rules y) s ≡ refused 1 (longest day-names (drop 0 s))
   day-missed e =
-      header-short rules s short
-      ∙ none-found rules s quiet [] (λ x. x) no-tail 3 day-words days-proper tt 0
+      header-short (rules y) s short
+      ∙ none-found (rules y) s (quiet y) [] (λ x. x) no-tail 3 day-words days-proper tt 0
       (find-names named-day (drop 0 s) day-names tt 0 ∙ ap (mapped named-day) e)
       ∙ ap (refused 1) (zero-plus (nearest day-words (drop 0 s)) ∙ nearest-names named-day (drop 0 s) day-names tt 0)
     where
@@ -514,35 +518,35 @@ module _ (s : List ℕ) (short : length s ≤ 8192) where
 
 -- ## The same, with the numbers that the code has found
 
-module _ (s : List ℕ) (k : ℕ) where
-  module _ (a : Goes rfc1123 s k) (n : ℕ) (e : n ≡ fitting (shape rfc1123-head) (drop 3 s)) where
-    pub rfc1123-stop : n < 5 → header rules s ≡ refused 1 (3 + n)
-    rfc1123-stop h = rfc1123-stops s k a (omega arith) ∙ ap (λ (m : ℕ). refused 1 (3 + m)) (sym e)
+module _ (y : ℕ) (s : List ℕ) (k : ℕ) where
+  module _ (a : Goes y rfc1123 s k) (n : ℕ) (e : n ≡ fitting (shape rfc1123-head) (drop 3 s)) where
+    pub rfc1123-stop : n < 5 → header (rules y) s ≡ refused 1 (3 + n)
+    rfc1123-stop h = rfc1123-stops y s k a (omega arith) ∙ ap (λ (m : ℕ). refused 1 (3 + m)) (sym e)
 
-    pub rfc1123-end : 5 ≤ n → Ending s k (shape rfc1123-tail) rfc1123-places
-    rfc1123-end h = rfc1123-ending s k a (omega (arith, fit-bound (shape rfc1123-head) (drop 3 s)))
+    pub rfc1123-end : 5 ≤ n → Ending y s k (shape rfc1123-tail) rfc1123-places
+    rfc1123-end h = rfc1123-ending y s k a (omega (arith, fit-bound (shape rfc1123-head) (drop 3 s)))
 
-  module _ (a : Goes asctime s k) (n : ℕ) (e : n ≡ fitting (32 ∷ []) (drop 3 s)) where
-    pub asctime-stop : n < 1 → header rules s ≡ refused 1 3
-    asctime-stop h = asctime-stops s k a (omega arith)
+  module _ (a : Goes y asctime s k) (n : ℕ) (e : n ≡ fitting (32 ∷ []) (drop 3 s)) where
+    pub asctime-stop : n < 1 → header (rules y) s ≡ refused 1 3
+    asctime-stop h = asctime-stops y s k a (omega arith)
 
-    pub asctime-one : 1 ≤ n → standing s 8 32 ≡ true → Ending s k (shape one-tail) asctime-places
-    asctime-one h f = one-ending s k a (omega (arith, fit-bound (32 ∷ []) (drop 3 s))) f
+    pub asctime-one : 1 ≤ n → standing s 8 32 ≡ true → Ending y s k (shape one-tail) asctime-places
+    asctime-one h f = one-ending y s k a (omega (arith, fit-bound (32 ∷ []) (drop 3 s))) f
 
-    pub asctime-two : 1 ≤ n → standing s 8 32 ≡ false → Ending s k (shape two-tail) asctime-places
-    asctime-two h f = two-ending s k a (omega (arith, fit-bound (32 ∷ []) (drop 3 s))) f
+    pub asctime-two : 1 ≤ n → standing s 8 32 ≡ false → Ending y s k (shape two-tail) asctime-places
+    asctime-two h f = two-ending y s k a (omega (arith, fit-bound (32 ∷ []) (drop 3 s))) f
 
-  module _ (a : AtRfc850 s k) (head : List ℕ) (is-head : head ≡ rfc850-head k) (n : ℕ) (e : n ≡ fitting head (drop 3 s)) where
+  module _ (a : AtRfc850 y s k) (head : List ℕ) (is-head : head ≡ rfc850-head k) (n : ℕ) (e : n ≡ fitting head (drop 3 s)) where
     fits : n ≡ fitting (rfc850-head k) (drop 3 s)
     fits = e ∙ ap (λ (w : List ℕ). fitting w (drop 3 s)) is-head
 
-    pub rfc850-stop : n < length head → header rules s ≡ refused 1 (3 + n)
-    rfc850-stop h = rfc850-reads s k a .0 (omega (arith, fits, ap length is-head)) ∙ ap (λ (m : ℕ). refused 1 (3 + m)) (sym fits)
+    pub rfc850-stop : n < length head → header (rules y) s ≡ refused 1 (3 + n)
+    rfc850-stop h = rfc850-reads y s k a .0 (omega (arith, fits, ap length is-head)) ∙ ap (λ (m : ℕ). refused 1 (3 + m)) (sym fits)
 
-    pub rfc850-end : length head ≤ n → Ending s k (shape rfc850-tail) (rfc850-places (3 + n))
+    pub rfc850-end : length head ≤ n → Ending y s k (shape rfc850-tail) (rfc850-places (3 + n))
     rfc850-end h =
         let f : fitting (rfc850-head k) (drop 3 s) ≡ length (rfc850-head k) = omega (arith, fits, ap length is-head, fit-bound (rfc850-head k) (drop 3 s)) in
-        subst (λ (m : ℕ). Ending s k (shape rfc850-tail) (rfc850-places (3 + m))) (sym (fits ∙ f)) (rfc850-reads s k a .1 f)
+        subst (λ (m : ℕ). Ending y s k (shape rfc850-tail) (rfc850-places (3 + m))) (sym (fits ∙ f)) (rfc850-reads y s k a .1 f)
 
 pub head-short : (k : ℕ) (head : List ℕ) → head ≡ rfc850-head k → length head ≤ 11
 head-short k head e = omega (arith, ap length e, short k)
@@ -565,18 +569,18 @@ other-heads (suc (suc (suc (suc zero)))) a b c d = refl
 other-heads (suc (suc (suc (suc (suc zero))))) a b c d = absurd (d refl)
 other-heads (suc (suc (suc (suc (suc (suc j)))))) a b c d = refl
 
-module _ (s : List ℕ) (short : length s ≤ 8192) where
-  pub found-day : (n : ℕ) → n ≡ first-name 1 day-names (drop 0 s) → (n ≡ 0 → ⊥) → AfterDay s (n - 1)
+module _ (y : ℕ) (within : PresentYear y) (s : List ℕ) (short : length s ≤ 8192) where
+  pub found-day : (n : ℕ) → n ≡ first-name 1 day-names (drop 0 s) → (n ≡ 0 → ⊥) → AfterDay y s (n - 1)
   found-day zero e h = absurd (h refl)
   found-day (suc k) e h =
       let z : k ≡ suc k - 1 = omega arith in
-      subst (AfterDay s) z (day-found s short k (sym e))
+      subst (AfterDay y s) z (day-found y within s short k (sym e))
 
-  pub missed-day : (n l : ℕ) → n ≡ first-name 1 day-names (drop 0 s) → n ≡ 0 → l ≡ longest day-names (drop 0 s) → header rules s ≡ refused 1 l
-  missed-day n l e z f = day-missed s short (sym e ∙ z) ∙ ap (refused 1) (sym f)
+  pub missed-day : (n l : ℕ) → n ≡ first-name 1 day-names (drop 0 s) → n ≡ 0 → l ≡ longest day-names (drop 0 s) → header (rules y) s ≡ refused 1 l
+  missed-day n l e z f = day-missed y within s short (sym e ∙ z) ∙ ap (refused 1) (sym f)
 
-pub fields-read : (s : List ℕ) (k m : ℕ) (p : Places) (y d h mi se : ℕ)
-    → y ≡ year-from s (p .year) (p .short) → d ≡ number (slice s (p .day) (p .day + 2))
+pub fields-read : (y : ℕ) (s : List ℕ) (k m : ℕ) (p : Places) (yr d h mi se : ℕ)
+    → yr ≡ year-from y s (p .year) (p .short) → d ≡ number (slice s (p .day) (p .day + 2))
     → h ≡ number (slice s (p .time) (p .time + 2)) → mi ≡ number (slice s (p .time + 3) (p .time + 3 + 2)) → se ≡ number (slice s (p .time + 6) (p .time + 6 + 2))
-    → judged k (record { year = y; month = m; day = d; hour = h; minute = mi; second = se }) ≡ judged k (fields-from s m p)
-fields-read s k m p y d h mi se a b c e f = ap (judged k) (rw (a, b, c, e, f))
+    → judged k (record { year = yr; month = m; day = d; hour = h; minute = mi; second = se }) ≡ judged k (fields-from y s m p)
+fields-read y s k m p yr d h mi se a b c e f = ap (judged k) (rw (a, b, c, e, f))

@@ -1,9 +1,9 @@
 -- HTTP-date (RFC 2616 3.3.1): the forms of RFC 1123, RFC 850 and asctime. "Dates are case-sensitive, without extra blanks."
-use Prim.Native.Nat.{ℕ, _+_}
+use Prim.Native.Nat.{ℕ}
 use mathlib.Core.Bool.{cond}
 use mathlib.Core.List.{List, [], _∷_}
 use mathlib.Core.Option.{Option, none, some}
-use lib.Dec.{T, ltb, eqb}
+use lib.Dec.{T, eqb}
 use Rattle.grammar.specs.Grammar.{Part, Grammar, empty, byte, _⨾_, _∣_, part, lit, bytes?}
 use Rattle.grammar.specs.Reading.{Fault, no-such-date, wrong-day, Rules}
 use Rattle.grammar.specs.Text.{bytes}
@@ -14,6 +14,7 @@ use Rattle.calendar.specs.Gregorian as Gregorian
 use Rattle.calendar.specs.Gregorian.{day-number, exists?}
 use Rattle.calendar.specs.Instants.{seconds-of}
 use Rattle.date.specs.declared.Date.{Date}
+use Rattle.date.specs.Years.{full-year, base-year}
 
 -- The parts. Days of the week are counted from 0, which is Monday, and months from 1: the empty part behind a name says which it is.
 pub data Name : Type 0 where
@@ -81,22 +82,29 @@ forms l p = rfc1123 ∣ lit l p rfc850 ∣ asctime
 abbrev pub on-day : (k : ℕ) (s : List ℕ) → T (bytes? s) → Grammar Name → Grammar Name
 on-day k s p g = lit s p (part (weekday k) empty ⨾ g)
 
-abbrev pub of-day : (k : ℕ) (s l : List ℕ) → T (bytes? s) → T (bytes? l) → Grammar Name
-of-day k s l p q = on-day k s p (forms l q)
+-- each day of the week, and then what g makes of the rest of its long name
+abbrev pub days : ((l : List ℕ) → T (bytes? l) → Grammar Name) → Grammar Name
+days g =
+    on-day 0 (bytes "Mon") tt (g (bytes "day") tt)
+    ∣ on-day 1 (bytes "Tue") tt (g (bytes "sday") tt)
+    ∣ on-day 2 (bytes "Wed") tt (g (bytes "nesday") tt)
+    ∣ on-day 3 (bytes "Thu") tt (g (bytes "rsday") tt)
+    ∣ on-day 4 (bytes "Fri") tt (g (bytes "day") tt)
+    ∣ on-day 5 (bytes "Sat") tt (g (bytes "urday") tt)
+    ∣ on-day 6 (bytes "Sun") tt (g (bytes "day") tt)
 
 abbrev pub date : Grammar Name
-date =
-    of-day 0 (bytes "Mon") (bytes "day") tt tt
-    ∣ of-day 1 (bytes "Tue") (bytes "sday") tt tt
-    ∣ of-day 2 (bytes "Wed") (bytes "nesday") tt tt
-    ∣ of-day 3 (bytes "Thu") (bytes "rsday") tt tt
-    ∣ of-day 4 (bytes "Fri") (bytes "day") tt tt
-    ∣ of-day 5 (bytes "Sat") (bytes "urday") tt tt
-    ∣ of-day 6 (bytes "Sun") (bytes "day") tt tt
+date = days forms
 
--- "A two-digit year from 70 to 99 means 1970 to 1999, and 00 to 69 means 2000 to 2069."
-unfoldable pub full-year : ℕ → ℕ
-full-year n = cond (ltb n 70) (2000 + n) (1900 + n)
+-- each of the three forms alone
+abbrev pub rfc1123-date : Grammar Name
+rfc1123-date = days (λ l p. rfc1123)
+
+abbrev pub rfc850-date : Grammar Name
+rfc850-date = days (λ l p. lit l p rfc850)
+
+abbrev pub asctime-date : Grammar Name
+asctime-date = days (λ l p. asctime)
 
 -- what the parts say: the day of the week that is named, and the fields
 pub record Said : Type 0 where
@@ -109,35 +117,37 @@ saying k y m d h n s = record {
   fields = record { year = y; month = m; day = d; hour = h; minute = n; second = s };
 }
 
--- with what one part says, its bytes being t
-abbrev pub noted : Name → (t : List ℕ) → Said → Said
-noted (weekday k) t s = record { named = k; fields = s .fields }
-noted (month k) t s =
-    let f = s .fields in
-    saying (s .named) (f .year) k (f .day) (f .hour) (f .minute) (f .second)
-noted day t s =
-    let f = s .fields in
-    saying (s .named) (f .year) (f .month) (number t) (f .hour) (f .minute) (f .second)
-noted year t s =
-    let f = s .fields in
-    saying (s .named) (number t) (f .month) (f .day) (f .hour) (f .minute) (f .second)
-noted short-year t s =
-    let f = s .fields in
-    saying (s .named) (full-year (number t)) (f .month) (f .day) (f .hour) (f .minute) (f .second)
-noted hour t s =
-    let f = s .fields in
-    saying (s .named) (f .year) (f .month) (f .day) (number t) (f .minute) (f .second)
-noted minute t s =
-    let f = s .fields in
-    saying (s .named) (f .year) (f .month) (f .day) (f .hour) (number t) (f .second)
-noted second t s =
-    let f = s .fields in
-    saying (s .named) (f .year) (f .month) (f .day) (f .hour) (f .minute) (number t)
+-- What the parts say, where `years` says what the two digits of a year mean.
+module _ (years : ℕ → ℕ) where
+  -- with what one part says, its bytes being t
+  abbrev pub noted : Name → (t : List ℕ) → Said → Said
+  noted (weekday k) t s = record { named = k; fields = s .fields }
+  noted (month k) t s =
+      let f = s .fields in
+      saying (s .named) (f .year) k (f .day) (f .hour) (f .minute) (f .second)
+  noted day t s =
+      let f = s .fields in
+      saying (s .named) (f .year) (f .month) (number t) (f .hour) (f .minute) (f .second)
+  noted year t s =
+      let f = s .fields in
+      saying (s .named) (number t) (f .month) (f .day) (f .hour) (f .minute) (f .second)
+  noted short-year t s =
+      let f = s .fields in
+      saying (s .named) (years (number t)) (f .month) (f .day) (f .hour) (f .minute) (f .second)
+  noted hour t s =
+      let f = s .fields in
+      saying (s .named) (f .year) (f .month) (f .day) (number t) (f .minute) (f .second)
+  noted minute t s =
+      let f = s .fields in
+      saying (s .named) (f .year) (f .month) (f .day) (f .hour) (number t) (f .second)
+  noted second t s =
+      let f = s .fields in
+      saying (s .named) (f .year) (f .month) (f .day) (f .hour) (f .minute) (number t)
 
--- a date has each of its parts, so that nothing of what no parts say is left
-abbrev pub said : List (Part Name) → Said
-said [] = saying 0 0 0 0 0 0 0
-said (p ∷ ps) = noted (p .label) (p .text) (said ps)
+  -- a date has each of its parts, so that nothing of what no parts say is left
+  abbrev pub said : List (Part Name) → Said
+  said [] = saying 0 0 0 0 0 0 0
+  said (p ∷ ps) = noted (p .label) (p .text) (said ps)
 
 -- no such date or time, then a day name that disagrees with the date
 unfoldable pub fault-of : ℕ → Fields → Option Fault
@@ -147,10 +157,18 @@ fault-of k f =
 abbrev pub value-of : Fields → Date
 value-of f = record { fields = f; seconds = seconds-of f }
 
-abbrev pub rules : Rules Name Date
-rules = record {
+abbrev pub rules-with : (years : ℕ → ℕ) → Rules Name Date
+rules-with years = record {
   grammar = date;
   limit = λ k ps. none;
-  fault = λ ps. fault-of (said ps .named) (said ps .fields);
-  value = λ ps. value-of (said ps .fields);
+  fault = λ ps. fault-of (said years ps .named) (said years ps .fields);
+  value = λ ps. value-of (said years ps .fields);
 }
+
+-- in the present year
+abbrev pub rules : (present : ℕ) → Rules Name Date
+rules y = rules-with (full-year y)
+
+-- as document 01 had them, before there was a present year
+abbrev pub base-rules : Rules Name Date
+base-rules = rules-with base-year

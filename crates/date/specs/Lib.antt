@@ -1,3 +1,4 @@
+pub mod Years
 pub mod Grammar
 pub mod Reading
 pub mod Names

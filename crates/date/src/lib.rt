@@ -5,8 +5,9 @@ ghost use lib.ListN.{length, drop};
 ghost use Rattle.grammar.specs.helpers.Judge.{header};
 ghost use Rattle.grammar.specs.helpers.Scans.{slice};
 ghost use Rattle.octets.specs.Numbers.{number};
-ghost use Rattle.date.specs.Grammar.{rfc1123, asctime, full-year, rules};
-ghost use Rattle.date.specs.Reading.{verdict};
+ghost use Rattle.date.specs.Years.{PresentYear, present-year?, full-year};
+ghost use Rattle.date.specs.Grammar.{rfc1123, asctime, rules};
+ghost use Rattle.date.specs.Reading.{reading, verdict};
 ghost use Rattle.date.specs.Names.{first-name};
 ghost use Rattle.date.specs.helpers.Scan.{Goes, AfterDay, AtRfc850, rfc850-head, month-then, judged, year-from, Ending};
 ghost use Rattle.octets.specs.helpers.Shapes.{stands-for, fitting};
@@ -15,6 +16,7 @@ use calendar::Fields;
 use calendar::Located;
 use octets::MALFORMED;
 use octets::NO_SUCH_DATE;
+use octets::OUT_OF_RANGE;
 use octets::Refusal;
 use octets::VALUE_TOO_LONG;
 use octets::WRONG_DAY_NAME;
@@ -49,10 +51,21 @@ pub const DAYS: [u8; 21] = *b"MonTueWedThuFriSatSun";
 
 pub const MONTHS: [u8; 36] = *b"JanFebMarAprMayJunJulAugSepOctNovDec";
 
-// Reads a date of any of the three forms.
-pub fn read(s: &[u8]) -> Reading
-    ensures { λ r. ⌜ verdict r ≡ header rules (now (s .entry)) ⌝ }
+// The present years under which dates are read: the hundred years around each are years of a date.
+pub const FIRST_PRESENT_YEAR: u32 = 1632;
+
+pub const LAST_PRESENT_YEAR: u32 = 9949;
+
+// Reads a date of any of the three forms. The present year says which century two digits of a year are in.
+pub fn read(s: &[u8], present: u32) -> Reading
+    ensures { λ r. ⌜ verdict r ≡ reading present (now (s .entry)) ⌝ }
 {
+    if !is_present_year(present) {
+        return Reading::Refused(Refusal {
+            number: OUT_OF_RANGE,
+            place: 0,
+        });
+    }
     if s.len() > octets::VALUE_LIMIT {
         return Reading::Refused(Refusal {
             number: VALUE_TOO_LONG,
@@ -66,33 +79,42 @@ pub fn read(s: &[u8]) -> Reading
             place: longest_at(&DAYS, s, 0),
         });
     }
-    read_form(s, number - 1)
+    read_form(s, number - 1, present)
+}
+
+fn is_present_year(year: u32) -> bool
+    ensures { λ r. ⌜ r ≡ present-year? year ⌝ }
+{
+    if year < FIRST_PRESENT_YEAR {
+        return false;
+    }
+    year <= LAST_PRESENT_YEAR
 }
 
 // Behind the short name of a day.
-fn read_form(s: &[u8], day: usize) -> Reading
-    requires { ⌜ AfterDay (now s) day ⌝ }
-    ensures { λ r. ⌜ verdict r ≡ header rules (now (s .entry)) ⌝ }
+fn read_form(s: &[u8], day: usize, present: u32) -> Reading
+    requires { ⌜ AfterDay present (now s) day ⌝ }
+    ensures { λ r. ⌜ verdict r ≡ header (rules present) (now (s .entry)) ⌝ }
 {
     if byte_is(s, 3, b',') {
-        return read_rfc1123(s, day);
+        return read_rfc1123(s, day, present);
     }
     if byte_is(s, 3, b' ') {
-        return read_asctime(s, day);
+        return read_asctime(s, day, present);
     }
     match day {
-        1 => read_rfc850(s, day, b"sday, 00-"),
-        2 => read_rfc850(s, day, b"nesday, 00-"),
-        3 => read_rfc850(s, day, b"rsday, 00-"),
-        5 => read_rfc850(s, day, b"urday, 00-"),
-        _ => read_rfc850(s, day, b"day, 00-"),
+        1 => read_rfc850(s, day, b"sday, 00-", present),
+        2 => read_rfc850(s, day, b"nesday, 00-", present),
+        3 => read_rfc850(s, day, b"rsday, 00-", present),
+        5 => read_rfc850(s, day, b"urday, 00-", present),
+        _ => read_rfc850(s, day, b"day, 00-", present),
     }
 }
 
 // `, 06 Nov 1994 08:49:37 GMT`
-fn read_rfc1123(s: &[u8], day: usize) -> Reading
-    requires { ⌜ Goes rfc1123 (now s) day ⌝ }
-    ensures { λ r. ⌜ verdict r ≡ header rules (now (s .entry)) ⌝ }
+fn read_rfc1123(s: &[u8], day: usize, present: u32) -> Reading
+    requires { ⌜ Goes present rfc1123 (now s) day ⌝ }
+    ensures { λ r. ⌜ verdict r ≡ header (rules present) (now (s .entry)) ⌝ }
 {
     let fits = fitting_at(b", 00 ", s, 3);
     if fits < 5 {
@@ -108,14 +130,14 @@ fn read_rfc1123(s: &[u8], day: usize) -> Reading
         day: 5,
         time: 17,
     };
-    read_tail(s, day, b" 0000 00:00:00 GMT", places)
+    read_tail(s, day, b" 0000 00:00:00 GMT", places, present)
 }
 
 // `day, 06-Nov-94 08:49:37 GMT`: the head is all before the month.
-fn read_rfc850(s: &[u8], day: usize, head: &[u8]) -> Reading
-    requires { ⌜ AtRfc850 (now s) day ⌝ }
+fn read_rfc850(s: &[u8], day: usize, head: &[u8], present: u32) -> Reading
+    requires { ⌜ AtRfc850 present (now s) day ⌝ }
     requires { ⌜ now head ≡ rfc850-head day ⌝ }
-    ensures { λ r. ⌜ verdict r ≡ header rules (now (s .entry)) ⌝ }
+    ensures { λ r. ⌜ verdict r ≡ header (rules present) (now (s .entry)) ⌝ }
 {
     let fits = fitting_at(head, s, 3);
     if fits < head.len() {
@@ -132,13 +154,13 @@ fn read_rfc850(s: &[u8], day: usize, head: &[u8]) -> Reading
         day: at - 3,
         time: at + 7,
     };
-    read_tail(s, day, b"-00 00:00:00 GMT", places)
+    read_tail(s, day, b"-00 00:00:00 GMT", places, present)
 }
 
 // ` Nov  6 08:49:37 1994`
-fn read_asctime(s: &[u8], day: usize) -> Reading
-    requires { ⌜ Goes asctime (now s) day ⌝ }
-    ensures { λ r. ⌜ verdict r ≡ header rules (now (s .entry)) ⌝ }
+fn read_asctime(s: &[u8], day: usize, present: u32) -> Reading
+    requires { ⌜ Goes present asctime (now s) day ⌝ }
+    ensures { λ r. ⌜ verdict r ≡ header (rules present) (now (s .entry)) ⌝ }
 {
     let fits = fitting_at(b" ", s, 3);
     if fits < 1 {
@@ -155,15 +177,15 @@ fn read_asctime(s: &[u8], day: usize) -> Reading
         time: 11,
     };
     if byte_is(s, 8, b' ') {
-        return read_tail(s, day, b"  0 00:00:00 0000", places);
+        return read_tail(s, day, b"  0 00:00:00 0000", places, present);
     }
-    read_tail(s, day, b" 00 00:00:00 0000", places)
+    read_tail(s, day, b" 00 00:00:00 0000", places, present)
 }
 
 // The month, what follows it, and the end. A blank before the day counts as 0.
-fn read_tail(s: &[u8], day: usize, tail: &[u8], places: Places) -> Reading
-    requires { ⌜ Ending (now s) day (now tail) places ⌝ }
-    ensures { λ r. ⌜ verdict r ≡ header rules (now (s .entry)) ⌝ }
+fn read_tail(s: &[u8], day: usize, tail: &[u8], places: Places, present: u32) -> Reading
+    requires { ⌜ Ending present (now s) day (now tail) places ⌝ }
+    ensures { λ r. ⌜ verdict r ≡ header (rules present) (now (s .entry)) ⌝ }
 {
     match month_then(tail, s, places.month) {
         Tail::Stops(place) => Reading::Refused(Refusal {
@@ -173,7 +195,7 @@ fn read_tail(s: &[u8], day: usize, tail: &[u8], places: Places) -> Reading
         Tail::Month(month) => judge(
             day,
             Fields {
-                year: year_at(s, places.year, places.short),
+                year: year_at(s, places.year, places.short, present),
                 month,
                 day: two_digits(s, places.day),
                 hour: two_digits(s, places.time),
@@ -323,12 +345,12 @@ fn four_digits(s: &[u8], at: usize) -> u32
     two_digits(s, at) * 100 + two_digits(s, at + 2)
 }
 
-fn year_at(s: &[u8], at: usize, short: bool) -> u32
-    requires { ⌜ at + 4 ≤ length (now s) ⌝ }
-    ensures { λ r. ⌜ r ≡ year-from (now (s .entry)) at short ⌝ }
+fn year_at(s: &[u8], at: usize, short: bool, present: u32) -> u32
+    requires { ⌜ PresentYear present × (at + 4 ≤ length (now s)) ⌝ }
+    ensures { λ r. ⌜ r ≡ year-from present (now (s .entry)) at short ⌝ }
 {
     if short {
-        full_year(two_digits(s, at))
+        full_year(present, two_digits(s, at))
     } else {
         four_digits(s, at)
     }
@@ -341,10 +363,12 @@ fn digit_value(b: u8) -> u32
     if b < b'0' { 0 } else { (b - b'0') as u32 }
 }
 
-// A two-digit year from 70 to 99 means 1970 to 1999, and 00 to 69 means 2000 to 2069.
-fn full_year(n: u32) -> u32
-    requires { ⌜ n < 3000 ⌝ }
-    ensures { λ r. ⌜ r ≡ full-year n ⌝ }
+// "the year from Y-49 to Y+50 with those digits": in the century in which these years begin, or in the next.
+fn full_year(present: u32, digits: u32) -> u32
+    requires { ⌜ PresentYear present × (digits < 3000) ⌝ }
+    ensures { λ r. ⌜ r ≡ full-year present digits ⌝ }
 {
-    if n < 70 { 2000 + n } else { 1900 + n }
+    let first = present - 49;
+    let year = first / 100 * 100 + digits;
+    if year < first { year + 100 } else { year }
 }

@@ -17,6 +17,7 @@ use Rattle.calendar.specs.Gregorian as Gregorian
 use Rattle.calendar.specs.Gregorian.{leap?, day-number, exists?}
 use Rattle.calendar.proofs.Counting.{lengths-small}
 use Rattle.calendar.proofs.Dates.{DateIs, TimeIs, date-of, time-of}
+use Rattle.date.specs.Years.{PresentYear}
 use Rattle.date.specs.Grammar.{forms, rules, value-of}
 use Rattle.date.specs.Names.{month-names, day-names, first-name}
 use Rattle.date.specs.helpers.Scan.{judged, fields-from, rest-of, rest-bytes, Goes, Ending}
@@ -114,9 +115,6 @@ module _ (f : Fields) (k : ℕ) (e : exists? f ≡ true) (w : k ≡ Gregorian.we
   unfolding date-text
   day = day-numbered k (drop 3 (date-text k f)) low
 
-  after-day : Goes (forms (rest-of k) (rest-bytes k)) (date-text k f) k
-  after-day = day-found (date-text k f) short k day
-
   at-comma : standing (date-text k f) 3 44 ≡ true
   unfolding date-text
   at-comma = refl
@@ -124,9 +122,6 @@ module _ (f : Fields) (k : ℕ) (e : exists? f ≡ true) (w : k ≡ Gregorian.we
   head-fits : fitting (bytes ", 00 ") (drop 3 (date-text k f)) ≡ 5
   unfolding date-text
   head-fits = rw (tens-is (f .day), ones-is (f .day))
-
-  ending : Ending (date-text k f) k tail-shape rfc1123-places
-  ending = rfc1123-end (date-text k f) k (goes-rfc1123 (date-text k f) k after-day at-comma) 5 (sym head-fits) (omega arith)
 
   month-number : suc (f .month - 1) ≡ f .month
   month-number = omega (arith, date .from-january)
@@ -145,13 +140,21 @@ module _ (f : Fields) (k : ℕ) (e : exists? f ≡ true) (w : k ≡ Gregorian.we
   unfolding date-text
   whole = omega arith
 
-  fields-back : fields-from (date-text k f) (f .month) rfc1123-places ≡ f
-  unfolding date-text
-  fields-back =
-      rw (two-back (f .day) few-days, four-back (f .year) (date .to-last), two-back (f .hour) (omega (arith, time .hours)))
-      (rw (two-back (f .minute) (omega (arith, time .minutes)), two-back (f .second) (omega (arith, time .seconds))))
+  -- in any present year
+  module _ (y : ℕ) (within : PresentYear y) where
+    after-day : Goes y (forms (rest-of k) (rest-bytes k)) (date-text k f) k
+    after-day = day-found y within (date-text k f) short k day
 
-  pub text-reads : header rules (date-text k f) ≡ value (value-of f)
-  text-reads =
-      let found = month-is tail-shape (date-text k f) 8 (f .month) 18 month-found (λ z. omega (arith, date .from-january, z)) tail-fits (omega arith) whole in
-      ending .ends (f .month) (sym found) ∙ ap (judged k) fields-back ∙ judged-well f k e w
+    ending : Ending y (date-text k f) k tail-shape rfc1123-places
+    ending = rfc1123-end y (date-text k f) k (goes-rfc1123 y (date-text k f) k after-day at-comma) 5 (sym head-fits) (omega arith)
+
+    fields-back : fields-from y (date-text k f) (f .month) rfc1123-places ≡ f
+    unfolding date-text
+    fields-back =
+        rw (two-back (f .day) few-days, four-back (f .year) (date .to-last), two-back (f .hour) (omega (arith, time .hours)))
+        (rw (two-back (f .minute) (omega (arith, time .minutes)), two-back (f .second) (omega (arith, time .seconds))))
+
+    pub text-reads : header (rules y) (date-text k f) ≡ value (value-of f)
+    text-reads =
+        let found = month-is tail-shape (date-text k f) 8 (f .month) 18 month-found (λ z. omega (arith, date .from-january, z)) tail-fits (omega arith) whole in
+        ending .ends (f .month) (sym found) ∙ ap (judged k) fields-back ∙ judged-well f k e w

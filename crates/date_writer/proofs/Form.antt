@@ -13,9 +13,9 @@ use Rattle.octets.specs.Classes.{DIGIT}
 use Rattle.calendar.specs.declared.Fields.{Fields}
 use Rattle.calendar.specs.Gregorian as Gregorian
 use Rattle.calendar.specs.Gregorian.{day-number, exists?}
-use Rattle.date.specs.Grammar.{Name, weekday, month, day, year, hour, minute, second, two, four, months, rfc1123, said}
+use Rattle.date.specs.Grammar.{Name, weekday, month, day, year, hour, minute, second, two, four, months, rfc1123, rfc1123-date, said}
 use Rattle.date.specs.Names.{month-names, day-names}
-use Rattle.date_writer.specs.Writing.{rfc1123-date, tens, ones, date-text}
+use Rattle.date_writer.specs.Writing.{tens, ones, date-text}
 use Rattle.date.proofs.Months.{Of, mark, number-part, lit-of, name-of, month-word}
 use Rattle.date_writer.proofs.Back as Back
 use Rattle.date_writer.proofs.Back.{tens-is, ones-is, two-back, four-back}
@@ -129,8 +129,8 @@ module _ (f : Fields) (k : ℕ) (e : exists? f ≡ true) (w : k ≡ Gregorian.we
       let from-month = month-of (f .month) (d .from-january) (d .to-december) 8 from-year in
       day-word _ _ (lit-of (bytes ", ") tt 3 (two-of day (f .day) 5 (lit-of (bytes " ") tt 7 from-month))) k (Back.low f k e w)
 
-  pub text-says : said text-parts ≡ record { named = k; fields = f }
-  text-says =
+  pub text-says : (years : ℕ → ℕ) → said years text-parts ≡ record { named = k; fields = f }
+  text-says years =
       let t = Back.time f k e w in
       rw (two-back (f .day) (Back.few-days f k e w), four-back (f .year) (Back.date f k e w .to-last), two-back (f .hour) (omega (arith, t .hours)))
       (rw (two-back (f .minute) (omega (arith, t .minutes)), two-back (f .second) (omega (arith, t .seconds))))

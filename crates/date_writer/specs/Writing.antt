@@ -5,26 +5,12 @@ use mathlib.Core.Bool.{not}
 use mathlib.Core.List.{List, _∷_}
 use lib.IntN.{ℤ}
 use lib.ListN.{length, getD}
-use Rattle.grammar.specs.Grammar.{Grammar, _∣_}
 use Rattle.grammar.specs.Reading.{Verdict}
 use Rattle.grammar.specs.Text.{bytes}
 use Rattle.octets.specs.Writing.{writing, output}
 use Rattle.calendar.specs.declared.Fields.{Fields}
 use Rattle.calendar.specs.Instants.{in-range?, fields-at, weekday-at}
-use Rattle.date.specs.Grammar as Forms
-use Rattle.date.specs.Grammar.{Name, on-day}
 use Rattle.date.specs.Names.{month-names, day-names}
-
--- the first of the three forms alone: `Sun, 06 Nov 1994 08:49:37 GMT`
-abbrev pub rfc1123-date : Grammar Name
-rfc1123-date =
-    on-day 0 (bytes "Mon") tt Forms.rfc1123
-    ∣ on-day 1 (bytes "Tue") tt Forms.rfc1123
-    ∣ on-day 2 (bytes "Wed") tt Forms.rfc1123
-    ∣ on-day 3 (bytes "Thu") tt Forms.rfc1123
-    ∣ on-day 4 (bytes "Fri") tt Forms.rfc1123
-    ∣ on-day 5 (bytes "Sat") tt Forms.rfc1123
-    ∣ on-day 6 (bytes "Sun") tt Forms.rfc1123
 
 -- the last two digits of a number
 abbrev pub tens : ℕ → ℕ

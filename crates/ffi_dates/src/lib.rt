@@ -1,8 +1,7 @@
 // Dates for C and Rust. Nothing is decided here.
 ghost use mathlib.Core.Path.{_≡_};
 ghost use lib.ListN.{length};
-ghost use Rattle.grammar.specs.helpers.Judge.{header};
-ghost use Rattle.date.specs.Grammar.{rules as dates};
+ghost use Rattle.date.specs.Reading.{reading};
 ghost use Rattle.date_writer.specs.Writing.{date-writing, date-output};
 ghost use Rattle.ffi_dates.specs.Fields.{date-fields};
 ghost use Rattle.ffi.specs.Fields.{written-fields};
@@ -25,12 +24,13 @@ pub struct QzDate {
     pub second: u32,
 }
 
-// A date in the form of RFC 1123, of RFC 850 or of asctime.
+// A date in the form of RFC 1123, of RFC 850 or of asctime. The present year is 1632 to 9949; two digits of a year mean the one from 49
+// years before it to 50 years behind it that ends in them.
 #[no_mangle]
-pub extern "C" fn qz_date_read(s: &[u8]) -> QzDate
-    ensures { λ r. ⌜ r ≡ date-fields (header dates (now (s .entry))) ⌝ }
+pub extern "C" fn qz_date_read(s: &[u8], present_year: u32) -> QzDate
+    ensures { λ r. ⌜ r ≡ date-fields (reading «present_year» (now (s .entry))) ⌝ }
 {
-    match date::read(s) {
+    match date::read(s, present_year) {
         date::Reading::Read(d) => QzDate {
             number: 0,
             place: 0,

@@ -22,6 +22,7 @@ pub mod Repeats
 pub mod Pieces
 pub mod Comparing
 pub mod Plain
+pub mod Labels
 pub mod Alike
 pub mod Regroup
 pub mod Values

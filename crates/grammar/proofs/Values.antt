@@ -1,10 +1,11 @@
--- Two kinds of header values that differ in their values alone: they refuse alike, and the values are those of the same parts.
+-- Two kinds of header values that differ in what their parts mean: in the values alone, or in faults and values.
 use Prim.Native.Nat.{ℕ}
-use mathlib.Core.Path.{_≡_, refl}
+use mathlib.Core.Path.{_≡_, refl, ap, _∙_}
 use mathlib.Core.List.{List}
+use mathlib.Core.Option.{Option}
 use lib.Dec.{T}
 use Rattle.grammar.specs.Grammar.{Part, Parses}
-use Rattle.grammar.specs.Reading.{Rules, Verdict, value, refused, Answers, too-long, malformed, breaks, faulty, reads}
+use Rattle.grammar.specs.Reading.{Fault, Rules, Verdict, value, refused, Answers, too-long, malformed, breaks, faulty, reads}
 use Rattle.grammar.specs.helpers.Derivative.{live}
 use Rattle.grammar.specs.helpers.Judge.{header}
 use Rattle.grammar.specs.helpers.Checks.{fresh?}
@@ -34,3 +35,24 @@ module _ {L A B : Type 0} (r : Rules L A) (f : List (Part L) → B) (some : T (l
 
   pub answered-alike : (v : Verdict A) → header r s ≡ v → Alike v
   answered-alike v e = from-answer v (answered-exactly r some fresh one-way s v .0 e)
+
+-- the same kind with another fault and another value
+abbrev pub remeant : {L A : Type 0} → Rules L A → (List (Part L) → Option Fault) → (List (Part L) → A) → Rules L A
+remeant r f w = record { grammar = r .grammar; limit = r .limit; fault = f; value = w }
+
+-- Where both make the same of the parts of s, if it has any, the answer is the same.
+module _ {L A : Type 0} (r : Rules L A) (f : List (Part L) → Option Fault) (w : List (Part L) → A) (some : T (live (r .grammar)))
+    (fresh : T (fresh? (r .grammar))) (one-way : T (deterministic? (r .grammar))) (s : List ℕ)
+    (same : (ps : List (Part L)) → Parses (r .grammar) 0 s ps → (f ps ≡ r .fault ps) × (w ps ≡ r .value ps)) where
+  remeant-is : (v : Verdict A) → Answers (remeant r f w) s v → header (remeant r f w) s ≡ v
+  remeant-is v = answered-exactly (remeant r f w) some fresh one-way s v .1
+
+  as-asked : (v : Verdict A) → Answers r s v → header (remeant r f w) s ≡ v
+  as-asked v (too-long h) = remeant-is (refused 13 8192) (too-long h)
+  as-asked v (malformed {p = p} h m l z) = remeant-is (refused 1 p) (malformed h m l z)
+  as-asked v (breaks h b z) = remeant-is _ (breaks h b z)
+  as-asked v (faulty {ps = ps} h m z e) = remeant-is _ (faulty h m z (same ps m .0 ∙ e))
+  as-asked v (reads {ps = ps} h m z e) = remeant-is (value (w ps)) (reads h m z (same ps m .0 ∙ e)) ∙ ap value (same ps m .1)
+
+  pub same-meaning : header (remeant r f w) s ≡ header r s
+  same-meaning = as-asked (header r s) (answered-exactly r some fresh one-way s (header r s) .0 refl)

@@ -6,7 +6,8 @@ use Rattle.grammar.specs.Grammar.{lower}
 use Rattle.octets.specs.Bytes.{digit?, letter?, hex?, token?}
 use Rattle.calendar.specs.Gregorian.{leap?, days-of-years, date?, time?}
 use Rattle.calendar.specs.Instants.{seconds-of}
-use Rattle.date.specs.Grammar.{full-year, fault-of}
+use Rattle.date.specs.Years.{full-year}
+use Rattle.date.specs.Grammar.{fault-of}
 use Rattle.url.specs.Bytes.{host?, unreserved?, path?, query?}
 use Rattle.framing.specs.helpers.Machine.{lineStep, lineLive, lineEnds, leaveLine, enterChunk, step, live, done, pastRoom}
 use Rattle.framing.specs.helpers.Scan.{answer}

@@ -1,4 +1,5 @@
--- The marked cases of document 01, "Both sides of the line": what each says of the definitions, and the table of them.
+-- The marked cases of document 01, "Both sides of the line": what each says of the definitions, and the table of them. Dates are read with
+-- the present year 2019: "With 2019 the old results return." (document 02, request (ii))
 use Prim.Native.Nat.{ℕ}
 use Prim.Native.String.{String}
 use lib.IntN.{ℤ, pos, negsuc}
@@ -12,7 +13,7 @@ use Rattle.grammar.specs.helpers.Judge.{header}
 use Rattle.version.specs.declared.Order.the-variants.{Less}
 use Rattle.version.specs.Grammar as VersionGrammar
 use Rattle.version.specs.Reading.{precedence}
-use Rattle.date.specs.Grammar as DateGrammar
+use Rattle.date.specs.Reading as DateReading
 use Rattle.qvalue.specs.Grammar as QvalueGrammar
 use Rattle.url_equal.specs.Meaning.{pages, same-page}
 use Rattle.framing.specs.Answer.{whole, refused}
@@ -35,7 +36,7 @@ Holds (version-is t m n) = header VersionGrammar.rules (bytes t) ≡ value (reco
 Holds (version-below t u) =
     compare precedence (header VersionGrammar.rules (bytes t)) (header VersionGrammar.rules (bytes u)) ≡ outcome Less
 Holds (date-is t y m d h n s z) =
-    header DateGrammar.rules (bytes t)
+    DateReading.reading 2019 (bytes t)
     ≡ value (record { fields = record { year = y; month = m; day = d; hour = h; minute = n; second = s }; seconds = z })
 Holds (qvalue-is t q) = header QvalueGrammar.rules (bytes t) ≡ value q
 Holds (qvalue-refused t n p) = header QvalueGrammar.rules (bytes t) ≡ Header.refused n p

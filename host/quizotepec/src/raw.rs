@@ -366,7 +366,7 @@ extern "C" {
     pub fn qz_etag_read(s: *const u8, s_len: usize) -> QzTag;
     pub fn qz_etag_strong_match(a: *const u8, a_len: usize, b: *const u8, b_len: usize) -> QzSame;
     pub fn qz_etag_weak_match(a: *const u8, a_len: usize, b: *const u8, b_len: usize) -> QzSame;
-    pub fn qz_date_read(s: *const u8, s_len: usize) -> QzDate;
+    pub fn qz_date_read(s: *const u8, s_len: usize, present_year: u32) -> QzDate;
     pub fn qz_date_write(seconds: i64, out: *mut u8, out_len: usize) -> QzWritten;
     pub fn qz_media_read(s: *const u8, s_len: usize) -> QzMedia;
     pub fn qz_media_equal(a: *const u8, a_len: usize, b: *const u8, b_len: usize) -> QzSame;

@@ -19,7 +19,7 @@ within : (c : tie.After-month) → Inside (entry c .args .s .now) (entry c .args
 within c = entry c .pre .inside (c .month .given .0 .0) (month-read c)
 
 year-at-requires : tie.Need-year-at-requires
-year-at-requires c κs = omega (arith, within (c .before) .0)
+year-at-requires c κs = (entry (c .before) .pre .within, omega (arith, within (c .before) .0))
 
 two-digits-requires : tie.Need-two-digits-requires
 two-digits-requires c κs = omega (arith, within (c .before .before) .1)
@@ -55,7 +55,7 @@ returns-2 c =
     let m = year .before .before in
     let z = entry m in
     c .judge .ensures
-    ∙ fields-read (z .args .s .now) (z .args .day) (m .month .given .0 .0) (z .args .places) _ _ _ _ _ (year .year-at .ensures)
+    ∙ fields-read (z .args .present) (z .args .s .now) (z .args .day) (m .month .given .0 .0) (z .args .places) _ _ _ _ _ (year .year-at .ensures)
     (day .two-digits .ensures .0) (hour .two-digits2 .ensures .0) (minute .two-digits3 .ensures .0) (second .two-digits4 .ensures .0)
     ∙ sym (z .pre .ends (m .month .given .0 .0) (month-read m))
 

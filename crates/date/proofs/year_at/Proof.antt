@@ -1,12 +1,14 @@
 -- `date::year_at` meets its contract.
 use borrow.Author.Needs.{needs}
 use mathlib.Core.Path.{ap, _∙_}
-use Rattle.date.specs.Grammar.{full-year}
+use Rattle.date.specs.Years.{full-year}
 use Rattle.date.proofs.year_at.Statement.{statement}
 use Rattle.date.proofs.year_at.Tie as tie
 
 returns : tie.Need-returns
-returns c = rw (c .before .before .if1 .taken) (c .full-year .ensures ∙ ap full-year (c .before .two-digits .ensures .0))
+returns c =
+    let y = c .before .before .before .before .args .present in
+    rw (c .before .before .if1 .taken) (c .full-year .ensures ∙ ap (full-year y) (c .before .two-digits .ensures .0))
 
 returns-2 : tie.Need-returns-2
 returns-2 c = rw (c .before .if1 .left) (c .four-digits .ensures)

@@ -1,4 +1,4 @@
--- For the contracts of the reader's helpers.
+-- For the contracts of the reader's helpers. The present year is y.
 use Prim.Native.Nat.{ℕ, zero, suc, _+_, _≤_, _<_}
 use mathlib.Core.Path.{_≡_}
 use mathlib.Core.Bool.{Bool, cond}
@@ -18,7 +18,8 @@ use Rattle.date.specs.declared.Date.{Date}
 use Rattle.date.specs.declared.Places.{Places}
 use Rattle.date.specs.declared.Tail.{Tail}
 use Rattle.date.specs.declared.Tail.the-variants.{Month, Stops}
-use Rattle.date.specs.Grammar.{Name, weekday, rfc850, forms, full-year, fault-of, value-of, rules}
+use Rattle.date.specs.Years.{PresentYear, full-year}
+use Rattle.date.specs.Grammar.{Name, weekday, rfc850, forms, fault-of, value-of, rules}
 use Rattle.date.specs.Names.{month-names, first-name}
 use Rattle.octets.specs.helpers.Shapes.{fitting}
 use Rattle.date.specs.helpers.Shapes.{longest}
@@ -51,15 +52,16 @@ abbrev pub day-part : ℕ → Part Name
 day-part k = record { label = weekday k; start = 3; text = [] }
 
 -- the day k is named, and the answer is what g finds from the place 3 on
-pub record Goes (g : Grammar Name) (s : List ℕ) (k : ℕ) : Type 0 where
+pub record Goes (y : ℕ) (g : Grammar Name) (s : List ℕ) (k : ℕ) : Type 0 where
+  pub within : PresentYear y
   pub short : length s ≤ 8192
-  pub reads : header rules s ≡ from rules s (ahead (day-part k ∷ []) g) 3
+  pub reads : header (rules y) s ≡ from (rules y) s (ahead (day-part k ∷ []) g) 3
 
-abbrev pub AfterDay : List ℕ → ℕ → Type 0
-AfterDay s k = Goes (forms (rest-of k) (rest-bytes k)) s k
+abbrev pub AfterDay : ℕ → List ℕ → ℕ → Type 0
+AfterDay y s k = Goes y (forms (rest-of k) (rest-bytes k)) s k
 
-abbrev pub AtRfc850 : List ℕ → ℕ → Type 0
-AtRfc850 s k = Goes (lit (rest-of k) (rest-bytes k) rfc850) s k
+abbrev pub AtRfc850 : ℕ → List ℕ → ℕ → Type 0
+AtRfc850 y s k = Goes y (lit (rest-of k) (rest-bytes k) rfc850) s k
 
 -- where a month has the number m, or is none with m = 0, and n bytes of a shape of the length l stand behind it
 abbrev pub tail-of : (s : List ℕ) (at l m n : ℕ) → Tail
@@ -76,13 +78,13 @@ unfoldable pub judged : (named : ℕ) → Fields → Verdict Date
 judged k f = unless-fault (fault-of k f) (value-of f)
 
 -- a year of two digits or of four
-abbrev pub year-from : (s : List ℕ) (at : ℕ) (short : Bool) → ℕ
-year-from s at short = cond short (full-year (number (slice s at (at + 2)))) (number (slice s at (at + 4)))
+abbrev pub year-from : (y : ℕ) (s : List ℕ) (at : ℕ) (short : Bool) → ℕ
+year-from y s at short = cond short (full-year y (number (slice s at (at + 2)))) (number (slice s at (at + 4)))
 
 -- the fields by their places: two digits each, but for a year that is not short; minute and second stand behind the hour
-abbrev pub fields-from : (s : List ℕ) (month : ℕ) → Places → Fields
-fields-from s m p = record {
-  year = year-from s (p .year) (p .short);
+abbrev pub fields-from : (y : ℕ) (s : List ℕ) (month : ℕ) → Places → Fields
+fields-from y s m p = record {
+  year = year-from y s (p .year) (p .short);
   month = m;
   day = number (slice s (p .day) (p .day + 2));
   hour = number (slice s (p .time) (p .time + 2));
@@ -95,8 +97,9 @@ abbrev pub Inside : List ℕ → Places → Type 0
 Inside s p = (p .year + 4 ≤ length s) × (p .day + 2 ≤ length s) × (p .time + 8 ≤ length s)
 
 -- the day k is named, and the answer is what a month and a text of the shape w behind it make
-pub record Ending (s : List ℕ) (k : ℕ) (w : List ℕ) (p : Places) : Type 0 where
+pub record Ending (y : ℕ) (s : List ℕ) (k : ℕ) (w : List ℕ) (p : Places) : Type 0 where
+  pub within : PresentYear y
   pub room : p .month + length w < 8192
-  pub stops : (q : ℕ) → month-then w s (p .month) ≡ Stops q → header rules s ≡ refused MALFORMED q
-  pub ends : (m : ℕ) → month-then w s (p .month) ≡ Month m → header rules s ≡ judged k (fields-from s m p)
+  pub stops : (q : ℕ) → month-then w s (p .month) ≡ Stops q → header (rules y) s ≡ refused MALFORMED q
+  pub ends : (m : ℕ) → month-then w s (p .month) ≡ Month m → header (rules y) s ≡ judged k (fields-from y s m p)
   pub inside : (m : ℕ) → month-then w s (p .month) ≡ Month m → Inside s p
