@@ -241,7 +241,7 @@ typedef struct QzDate {
 } QzDate;
 
 /* A date in the form of RFC 1123, of RFC 850 or of asctime. The present year is 1632 to 9949; two digits of a year
- * mean the one from 49 years before it to 50 years behind it that ends in them. */
+ * mean the one from 49 years before it to 50 years after it that ends in them. */
 QzDate qz_date_read(const uint8_t *s, size_t s_len, uint32_t present_year);
 
 /* Writes the 29 bytes of the RFC 1123 form; the range is -12,212,553,600 to 253,402,300,799. */

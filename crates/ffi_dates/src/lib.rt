@@ -25,7 +25,7 @@ pub struct QzDate {
 }
 
 // A date in the form of RFC 1123, of RFC 850 or of asctime. The present year is 1632 to 9949; two digits of a year mean the one from 49
-// years before it to 50 years behind it that ends in them.
+// years before it to 50 years after it that ends in them.
 #[no_mangle]
 pub extern "C" fn qz_date_read(s: &[u8], present_year: u32) -> QzDate
     ensures { λ r. ⌜ r ≡ date-fields (reading «present_year» (now (s .entry))) ⌝ }
