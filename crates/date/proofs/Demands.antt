@@ -1,31 +1,28 @@
--- The theorems of dates: what a customer reads.
-use Prim.Native.Nat.{ℕ, suc, _≤_}
+-- The theorems of dates: what a customer reads. Y, the present year, is y.
+use Prim.Native.Nat.{ℕ, suc, _+_, _-_, _*_, _/_, _%_, _≤_, _<_}
 use native.Mathlib.Omega.{arith}
-use mathlib.Core.Path.{_≡_, refl, sym, _∙_}
-use mathlib.Core.Logic.{_↔_}
+use mathlib.Core.Path.{_≡_, refl, sym, ap, subst, _∙_}
+use mathlib.Core.Logic.{_↔_, _⊎_, inl, inr}
 use mathlib.Core.List.{List, [], _∷_}
-use lib.Dec.{T}
 use lib.ListN.{length}
 use Rattle.grammar.specs.Grammar.{Part, Parses}
-use Rattle.grammar.specs.Reading.{Verdict, value, Answers}
+use Rattle.grammar.specs.Reading.{Verdict, value, Answers, reads}
 use Rattle.grammar.specs.Arguments.{Asked, in-range}
-use Rattle.grammar.proofs.Deterministic.{deterministic?}
-use Rattle.grammar.proofs.Demands.{answered-exactly, asked-exactly}
 use Rattle.grammar.specs.helpers.Judge.{header}
-use Rattle.octets.specs.Bytes.{digit?}
+use Rattle.grammar.proofs.Demands.{answered-exactly, asked-exactly, one-parse}
+use Rattle.calendar.specs.Gregorian.{first-year, last-year}
 use Rattle.calendar.proofs.Demands as Calendar
 use Rattle.date.specs.declared.Date.{Date}
-use Rattle.date.specs.Years.{PresentYear, present-year?}
-use Rattle.date.specs.Grammar.{Name, month, months, date, rules}
+use Rattle.date.specs.Years.{PresentYear, present-year?, Chosen, full-year, base-year}
+use Rattle.date.specs.Grammar.{Name, month, months, date, rfc1123-date, rfc850-date, asctime-date, said, value-of, rules, base-rules}
 use Rattle.date.specs.Names.{month-names, first-name}
 use Rattle.date.specs.Reading.{reading}
 use Rattle.date.proofs.Months.{month-first, first-month}
 use Rattle.date.proofs.Judged.{read-is}
-use Rattle.date.proofs.Years.{is-present, not-present}
-
-one-way : T (deterministic? date)
-unfolding digit?
-one-way = tt
+use Rattle.date.proofs.Years.{is-present, not-present, reading-in, chosen-year, chosen-only, ahead-past, as-2019}
+use Rattle.date.proofs.Forms.{one-way, one-of-three, any-of-three, Agree, agree-always, agree-full, same-answer}
+use Rattle.date.proofs.Forms.{rfc1123-full, asctime-full}
+use Rattle.date.proofs.ShortYears.{says-short-year}
 
 -- What `read` answers (its promise is `reading y s`): the fields and the seconds of a well-formed date, or the refusal of the row that
 -- applies first (9, then 13, then 1, then 3, then 4), and nothing else.
@@ -40,3 +37,91 @@ pub month-number : (i : ℕ) (t : List ℕ) (ps : List (Part Name)) → Parses m
     ↔ ((k : ℕ) × (length t ≡ 3) × (first-name 1 month-names t ≡ suc k)
     × (ps ≡ record { label = month (suc k); start = suc (suc (suc i)); text = [] } ∷ []))
 month-number i t ps = (month-first i t ps, first-month i t ps)
+
+-- A date is of one of the three forms.
+pub three-forms : (i : ℕ) (s : List ℕ) (ps : List (Part Name))
+    → Parses date i s ps ↔ (Parses rfc1123-date i s ps ⊎ (Parses rfc850-date i s ps ⊎ Parses asctime-date i s ps))
+three-forms i s ps = (one-of-three i s ps, any-of-three i s ps)
+
+-- "choose the year from Y-49 to Y+50 with those digits": there is one, and no second.
+pub only-year : (y n : ℕ) → PresentYear y → n < 100 → (year : ℕ) → Chosen y n year ↔ (year ≡ full-year y n)
+only-year y n p h year =
+    let late : 49 ≤ y = omega (arith, p .0) in
+    (chosen-only y n late h year, λ e. subst (Chosen y n) (sym e) (chosen-year y n late h))
+
+-- The years of a date, 1583 to 9999, hold them all: "Y is 1632 to 9949".
+pub all-years : (y : ℕ) → PresentYear y ↔ ((n year : ℕ) → Chosen y n year → (first-year ≤ year) × (year ≤ last-year))
+all-years y = (
+  λ p n year c. (omega (arith, p .0, c .earliest), omega (arith, p .1, c .latest)),
+  λ f. let first = f ((y - 49) % 100) (y - 49) (record { earliest = omega arith; latest = omega arith; ends = refl }) in
+      let last = f ((y + 50) % 100) (y + 50) (record { earliest = omega arith; latest = omega arith; ends = refl }) in
+      (omega (arith, first .0), omega (arith, last .1)),
+)
+
+-- "a two-digit date that appears more than 50 years ahead is past": in the century of Y it is, and so the year before Y is meant.
+pub ahead-is-past : (y n : ℕ) → PresentYear y → n < 100 → y + 50 < y / 100 * 100 + n → full-year y n < y
+ahead-is-past y n p h = ahead-past y n (omega (arith, p .0)) h
+
+-- What is read in a present year, and its parts.
+module _ (y : ℕ) (s : List ℕ) (d : Date) (e : reading y s ≡ value d) where
+  read-parts : (ps : List (Part Name)) → Parses date 0 s ps → PresentYear y × (d ≡ value-of (said (full-year y) ps .fields))
+  read-parts ps p = asked d (answers y s (value d) .0 e)
+    where
+      parts : (x : Date) → Answers (rules y) s (value x) → x ≡ value-of (said (full-year y) ps .fields)
+      parts x (reads {ps = qs} l q sound f) =
+          ap (λ (rs : List (Part Name)). value-of (said (full-year y) rs .fields)) (one-parse (rules y) tt tt one-way s qs ps q p)
+
+      asked : (x : Date) → Asked (PresentYear y) (Answers (rules y) s) (value x)
+          → PresentYear y × (x ≡ value-of (said (full-year y) ps .fields))
+      asked x (in-range i a) = (i, parts x a)
+
+  -- Of a date in the form of RFC 850, the year is the chosen one. Its digits are the year that is said where two digits mean themselves.
+  pub chosen-read : (ps : List (Part Name)) → Parses rfc850-date 0 s ps → Chosen y (said (λ n. n) ps .fields .year) (d .fields .year)
+  chosen-read ps p =
+      let r = read-parts ps (any-of-three 0 s ps (inr (inl p))) in
+      let x = says-short-year s ps p in
+      let year : d .fields .year ≡ full-year y (x .0) = ap (λ (z : Date). z .fields .year) (r .1) ∙ x .2 (full-year y) in
+      subst (λ (n : ℕ). Chosen y n (d .fields .year)) (sym (x .2 (λ n. n)))
+      (subst (Chosen y (x .0)) (sym year) (chosen-year y (x .0) (omega (arith, r .0 .0)) (x .1)))
+
+-- "With 2019 the old results return.": whatever the bytes, the answer is that of document 01's rules.
+pub with-2019 : (s : List ℕ) → reading 2019 s ≡ header base-rules s
+with-2019 s = same-answer (full-year 2019) base-year s (λ ps p. agree-always (full-year 2019) base-year as-2019 ps)
+
+-- Only the form of RFC 850 depends on Y.
+module _ (y z : ℕ) (py : PresentYear y) (pz : PresentYear z) (s : List ℕ) where
+  same-in-both : ((ps : List (Part Name)) → Parses date 0 s ps → Agree (full-year y) (full-year z) ps) → reading y s ≡ reading z s
+  same-in-both agree = reading-in y py s ∙ same-answer (full-year y) (full-year z) s agree ∙ sym (reading-in z pz s)
+
+  -- whatever is not in that form gets the same answer under every Y
+  pub same-unless-rfc850 : ((ps : List (Part Name)) → Parses rfc850-date 0 s ps → ⊥) → reading y s ≡ reading z s
+  same-unless-rfc850 none = same-in-both (λ ps p. go ps (one-of-three 0 s ps p))
+    where
+      go : (ps : List (Part Name)) → Parses rfc1123-date 0 s ps ⊎ (Parses rfc850-date 0 s ps ⊎ Parses asctime-date 0 s ps)
+          → Agree (full-year y) (full-year z) ps
+      go ps (inl p) = agree-full (full-year y) (full-year z) ps (rfc1123-full s ps p)
+      go ps (inr (inl p)) = absurd (none ps p)
+      go ps (inr (inr p)) = agree-full (full-year y) (full-year z) ps (asctime-full s ps p)
+
+  -- and so does whatever is in one of the other two
+  pub other-forms : (ps : List (Part Name)) → Parses rfc1123-date 0 s ps ⊎ Parses asctime-date 0 s ps → reading y s ≡ reading z s
+  other-forms ps p =
+      same-in-both (λ qs q. subst (Agree (full-year y) (full-year z)) (one-parse (rules y) tt tt one-way s ps qs (whole p) q) (full p))
+    where
+      whole : Parses rfc1123-date 0 s ps ⊎ Parses asctime-date 0 s ps → Parses date 0 s ps
+      whole (inl m) = any-of-three 0 s ps (inl m)
+      whole (inr m) = any-of-three 0 s ps (inr (inr m))
+
+      full : Parses rfc1123-date 0 s ps ⊎ Parses asctime-date 0 s ps → Agree (full-year y) (full-year z) ps
+      full (inl m) = agree-full (full-year y) (full-year z) ps (rfc1123-full s ps m)
+      full (inr m) = agree-full (full-year y) (full-year z) ps (asctime-full s ps m)
+
+-- "The result is the fields and the seconds since 1970-01-01 00:00:00": of whatever is read, fields and seconds determine each other, and
+-- two dates are the same instant exactly when their seconds are equal, whichever present years they were read in.
+pub same-instant : (y z : ℕ) (a b : List ℕ) (d e : Date) → reading y a ≡ value d → reading z b ≡ value e
+    → (d .fields ≡ e .fields) ↔ (d .seconds ≡ e .seconds)
+same-instant y z a b d e p q =
+    let x = read-is y a d (answers y a (value d) .0 p) in
+    let u = read-is z b e (answers z b (value e) .0 q) in
+    let same = Calendar.same-instant (d .fields) (e .fields) (x .0) (u .0) in
+    (λ h. x .1 ∙ same .0 h ∙ sym (u .1), λ h. same .1 (sym (x .1) ∙ h ∙ u .1))

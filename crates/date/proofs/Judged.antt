@@ -14,7 +14,8 @@ use mir.Facts.{toZ-ofZ}
 use denote.Enum.Declared.{tagOf}
 use types.Run.{OneOf, miss}
 use Rattle.calendar.proofs.Located.{the-type}
-use Rattle.grammar.specs.Reading.{Verdict, value, refused, no-such-date, wrong-day, Answers, too-long, malformed, breaks, faulty, reads}
+use Rattle.grammar.specs.Reading.{value, refused, no-such-date, wrong-day, Answers, reads}
+use Rattle.grammar.specs.Arguments.{Asked, in-range as argument-in-range}
 use Rattle.grammar.specs.helpers.Judge.{unless-fault}
 use Rattle.calendar.specs.declared.Fields.{Fields}
 use Rattle.calendar.specs.declared.Located.{Located}
@@ -25,7 +26,7 @@ use Rattle.calendar.specs.Instants.{seconds-of, located, in-range?}
 use Rattle.calendar.proofs.Demands.{in-range}
 use Rattle.calendar.proofs.Signed.{late, early}
 use Rattle.date.specs.declared.Date.{Date}
-use Rattle.date.specs.Years.{full-year}
+use Rattle.date.specs.Years.{PresentYear, full-year}
 use Rattle.date.specs.Grammar.{fault-of, said, value-of, rules}
 use Rattle.date.specs.helpers.Scan.{judged}
 
@@ -92,17 +93,9 @@ no-fault k f e = go (exists? f) refl e
     go false d e = absurd (let z : _≡_ {A = ℕ} 0 1 = cc in omega arith)
 
 -- what is read is a date that exists, and its seconds
-pub read-is : (y : ℕ) (s : List ℕ) (v : Verdict Date) → Answers (rules y) s v → (d : Date) → v ≡ value d
+pub read-is : (y : ℕ) (s : List ℕ) (d : Date) → Asked (PresentYear y) (Answers (rules y) s) (value d)
     → (exists? (d .fields) ≡ true) × (d .seconds ≡ seconds-of (d .fields))
-read-is y s v (too-long h) d e = absurd (let z : _≡_ {A = ℕ} 0 1 = cc in omega arith)
-read-is y s v (malformed h n l t) d e = absurd (let z : _≡_ {A = ℕ} 0 1 = cc in omega arith)
-read-is y s v (breaks h b t) d e = absurd (let z : _≡_ {A = ℕ} 0 1 = cc in omega arith)
-read-is y s v (faulty h p t f) d e = absurd (let z : _≡_ {A = ℕ} 0 1 = cc in omega arith)
-read-is y s v (reads {ps} h p t f) d e =
-    let x : value-of (said (full-year y) ps .fields) ≡ d = same-value e in (
-      ap (λ (y : Date). exists? (y .fields)) (sym x) ∙ no-fault (said (full-year y) ps .named) (said (full-year y) ps .fields) f,
-      ap (λ (y : Date). y .seconds) (sym x) ∙ ap (λ (y : Date). seconds-of (y .fields)) x,
-    )
+read-is y s d (argument-in-range i a) = go d a
   where
-    same-value : {x y : Date} → value x ≡ value y → x ≡ y
-    same-value e = cc
+    go : (d : Date) → Answers (rules y) s (value d) → (exists? (d .fields) ≡ true) × (d .seconds ≡ seconds-of (d .fields))
+    go d (reads {ps} h p t f) = (no-fault (said (full-year y) ps .named) (said (full-year y) ps .fields) f, refl)

@@ -1,6 +1,9 @@
 pub mod Months
 pub mod Years
+pub mod Forms
+pub mod ShortYears
 pub mod Demands
 pub mod Tables
 pub mod Judged
 pub mod Scan
+pub mod Examples

@@ -1,8 +1,8 @@
 -- The year that two digits mean.
-use Prim.Native.Nat.{ℕ, _+_, _-_, _*_, _/_, _%_, _≤_, _<_}
+use Prim.Native.Nat.{ℕ, _+_, _-_, _*_, _/_, _≤_, _<_}
 use native.Mathlib.Omega.{arith}
 use borrow.Author.Tests.{leb-true, leb-false, ltb-true, ltb-false, lt-ltb, le-ltb, le-leb}
-use mathlib.Core.Path.{_≡_, refl, sym, ap, _∙_}
+use mathlib.Core.Path.{_≡_, refl, sym, ap}
 use mathlib.Core.Bool.{Bool, true, false, cond, _&&_, true≢false}
 use mathlib.Core.List.{List}
 use lib.Dec.{leb, ltb}
@@ -47,15 +47,39 @@ reading-in y p s = sym (reading-within y s (present-is y p))
 
 -- ## The year of the window
 
-pub chosen-year : (y n : ℕ) → 49 ≤ y → n < 100 → Chosen y n (full-year y n)
-unfolding full-year
-chosen-year y n a h = go (ltb ((y - 49) / 100 * 100 + n) (y - 49)) refl
+module _ (y n : ℕ) (late : 49 ≤ y) (two : n < 100) where
+  abbrev here : ℕ
+  here = (y - 49) / 100 * 100 + n
+
+  pub chosen-year : Chosen y n (full-year y n)
+  unfolding full-year
+  chosen-year = go (ltb here (y - 49)) refl
+    where
+      go : (t : Bool) → ltb here (y - 49) ≡ t → Chosen y n (cond t (here + 100) here)
+      go true e =
+          let l = ltb-true here (y - 49) e in
+          record { earliest = omega arith; latest = omega arith; ends = omega arith }
+      go false e =
+          let l = ltb-false here (y - 49) e in
+          record { earliest = omega arith; latest = omega arith; ends = omega arith }
+
+  pub chosen-only : (year : ℕ) → Chosen y n year → year ≡ full-year y n
+  chosen-only year c = only year (full-year y n) c chosen-year
+    where
+      only : (a b : ℕ) → Chosen y n a → Chosen y n b → a ≡ b
+      only a b c d = omega (arith, c .earliest, c .latest, c .ends, d .earliest, d .latest, d .ends)
+
+  -- a year that stands more than 50 years ahead in the present century stands before the present year
+  pub ahead-past : y + 50 < y / 100 * 100 + n → full-year y n < y
+  ahead-past h = past (full-year y n) chosen-year
+    where
+      past : (a : ℕ) → Chosen y n a → a < y
+      past a c = omega (arith, c .earliest, c .latest, c .ends)
+
+pub as-2019 : (n : ℕ) → full-year 2019 n ≡ base-year n
+unfolding full-year base-year
+as-2019 n = go (ltb n 70) refl
   where
-    go : (t : Bool) → ltb ((y - 49) / 100 * 100 + n) (y - 49) ≡ t
-        → Chosen y n (cond t ((y - 49) / 100 * 100 + n + 100) ((y - 49) / 100 * 100 + n))
-    go true e =
-        let l = ltb-true ((y - 49) / 100 * 100 + n) (y - 49) e in
-        record { earliest = omega arith; latest = omega arith; ends = omega arith }
-    go false e =
-        let l = ltb-false ((y - 49) / 100 * 100 + n) (y - 49) e in
-        record { earliest = omega arith; latest = omega arith; ends = omega arith }
+    go : (t : Bool) → ltb n 70 ≡ t → cond (ltb (1900 + n) 1970) (1900 + n + 100) (1900 + n) ≡ cond t (2000 + n) (1900 + n)
+    go true e = rw (lt-ltb (1900 + n) 1970 (omega (arith, ltb-true n 70 e))) (omega arith)
+    go false e = rw (le-ltb (1900 + n) 1970 (omega (arith, ltb-false n 70 e)))

@@ -1,4 +1,5 @@
--- Which year two digits mean. "By RFC 2616 19.3 a two-digit date that appears more than 50 years ahead is past." (document 02, request (ii))
+-- Which year two digits mean: request (ii) of document 02. "By RFC 2616 19.3 a two-digit date that appears more than 50 years ahead is
+-- past."
 use Prim.Native.Nat.{ℕ, _+_, _-_, _*_, _/_, _%_, _≤_}
 use mathlib.Core.Path.{_≡_}
 use mathlib.Core.Bool.{Bool, cond, _&&_}

@@ -12,7 +12,7 @@ use Rattle.calendar.specs.Gregorian.{weekday, day-number, exists?}
 use Rattle.calendar.specs.Instants.{in-range?, fields-at, weekday-at}
 use Rattle.calendar.proofs.Demands.{fields-exist, same-seconds, same-weekday}
 use Rattle.date.specs.Years.{PresentYear}
-use Rattle.date.specs.Grammar.{Name, rfc1123-date, said, value-of, rules}
+use Rattle.date.specs.Grammar.{Name, rfc1123-date, said, value-of}
 use Rattle.date.specs.Reading.{reading}
 use Rattle.date.proofs.Years.{reading-in}
 use Rattle.date_writer.specs.Writing.{date-text, instant-text, date-writing, date-output}
