@@ -1,4 +1,4 @@
-//! Dates in three forms (RFC 2616 3.3.1).
+//! Dates in three forms (RFC 2616 3.3.1); their two-digit years follow the clock by request (ii).
 
 use crate::grammar::{part, repeat, Grammar, Name, Parsed};
 use crate::number::{NO_SUCH_DATE, WRONG_DAY_NAME};
@@ -12,19 +12,25 @@ pub const LATEST: i64 = 253_402_300_799;
 /// The length of the RFC 1123 form.
 pub const LENGTH: usize = 29;
 
-const FIRST_YEAR: i64 = 1583;
-const LAST_YEAR: i64 = 9999;
+/// "Y is 1632 to 9949": then each year that can be chosen is one of 1583 to 9999.
+pub const FIRST_PRESENT_YEAR: u32 = 1632;
+pub const LAST_PRESENT_YEAR: u32 = 9949;
+/// "With 2019 the old results return."
+pub const BASE_YEAR: u32 = 2019;
+pub(crate) const YEARS_BACK: u32 = 49;
+pub(crate) const YEARS_AHEAD: u32 = 50;
+
+pub(crate) const FIRST_YEAR: i64 = 1583;
+pub(crate) const LAST_YEAR: i64 = 9999;
 const EPOCH_YEAR: i64 = 1970;
 /// 1970-01-01 was a Thursday; days of the week count from Monday.
 const EPOCH_DAY_OF_WEEK: i64 = 3;
 const WEEK: i64 = 7;
-const DAY_SECONDS: i64 = 86_400;
+pub(crate) const DAY_SECONDS: i64 = 86_400;
 const HOUR_SECONDS: i64 = 3_600;
 const MINUTE_SECONDS: i64 = 60;
 const LAST_HOUR: u64 = 23;
 const LAST_MINUTE_OR_SECOND: u64 = 59;
-/// Two-digit years from here on are of the twentieth century.
-const PIVOT: u64 = 70;
 
 pub const DAY_NAMES: [&str; 7] =
     ["Monday", "Tuesday", "Wednesday", "Thursday", "Friday", "Saturday", "Sunday"];
@@ -122,7 +128,7 @@ fn year_starts() -> &'static [i64] {
     })
 }
 
-fn day_number(year: i64, month: usize, day: i64) -> i64 {
+pub(crate) fn day_number(year: i64, month: usize, day: i64) -> i64 {
     let before: i64 = (1..month).map(|month| month_length(year, month)).sum();
     year_starts()[(year - FIRST_YEAR) as usize] + before + day - 1
 }
@@ -132,22 +138,25 @@ pub fn day_of_week(seconds: i64) -> usize {
     (seconds.div_euclid(DAY_SECONDS) + EPOCH_DAY_OF_WEEK).rem_euclid(WEEK) as usize
 }
 
-fn year_of(parsed: &Parsed, input: &[u8]) -> i64 {
-    let span = parsed.first(YEAR).unwrap_or_default();
-    let digits = number_of(input, span);
-    let year = match span.length {
-        2 if digits >= PIVOT => 1900 + digits,
-        2 => 2000 + digits,
-        _ => digits,
-    };
-    year as i64
+/// "the year from Y-49 to Y+50 with those digits": of a hundred years in a row, just one ends in them.
+fn chosen_year(digits: &[u8], present_year: u32) -> Option<i64> {
+    let mut window = present_year - YEARS_BACK..=present_year + YEARS_AHEAD;
+    window.find(|year| year.to_string().as_bytes().ends_with(digits)).map(i64::from)
+}
+
+fn year_of(parsed: &Parsed, input: &[u8], present_year: u32) -> Option<i64> {
+    let span = parsed.first(YEAR)?;
+    match span.length {
+        2 => chosen_year(span.of(input), present_year),
+        _ => Some(number_of(input, span) as i64),
+    }
 }
 
 /// The fields, if there is such a date and time.
-fn fields(parsed: &Parsed, input: &[u8]) -> Option<Date> {
+fn fields(parsed: &Parsed, input: &[u8], present_year: u32) -> Option<Date> {
     let span = |name| parsed.first(name).unwrap_or_default();
     let number = |name| number_of(input, span(name));
-    let year = year_of(parsed, input);
+    let year = year_of(parsed, input, present_year)?;
     let name: Span = span(MONTH);
     let month = 1 + MONTH_NAMES.iter().position(|text| text.as_bytes() == name.of(input))?;
     let (day, hour, minute, second) = (number(DAY) as i64, number(HOUR), number(MINUTE), number(SECOND));
@@ -168,9 +177,13 @@ fn fields(parsed: &Parsed, input: &[u8]) -> Option<Date> {
     })
 }
 
-pub fn read(input: &[u8]) -> Result<Date, Refusal> {
+/// A present year out of its range is refusal 9 "before anything is read".
+pub fn read(input: &[u8], present_year: u32) -> Result<Date, Refusal> {
+    if !(FIRST_PRESENT_YEAR..=LAST_PRESENT_YEAR).contains(&present_year) {
+        return Err(OUT_OF_RANGE);
+    }
     let parsed = read_header(grammar(), input, no_limits)?;
-    let date = fields(&parsed, input).ok_or(Refusal::new(NO_SUCH_DATE, 0))?;
+    let date = fields(&parsed, input, present_year).ok_or(Refusal::new(NO_SUCH_DATE, 0))?;
     let sent = parsed.first(DAY_NAME).unwrap_or_default().of(input);
     let day = day_of_week(date.seconds);
     if sent != SHORT_DAY_NAMES[day].as_bytes() && sent != DAY_NAMES[day].as_bytes() {

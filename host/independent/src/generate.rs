@@ -2,6 +2,7 @@
 
 mod bodies;
 mod cuttings;
+mod dates;
 mod limits;
 mod ranges;
 mod trailers;
@@ -9,6 +10,7 @@ mod values;
 
 pub use bodies::{any_body, body, frame, rooms};
 pub use cuttings::{cuttings, every_cutting, pieces_of, quotas};
+pub use dates::{instant, present_year, present_years, rfc850_date, two_digit_years};
 pub use limits::at_limits;
 pub use ranges::{
     capped_range_sets, content_range, counted_range_sets, damaged_range_set, entity_lengths, long_range_sets,
@@ -18,7 +20,7 @@ pub use trailers::{
     allowed_name, allowed_names, body_with_names, forbidden_name, forbidden_names, trailers_with,
     trailers_with_each_byte,
 };
-pub use values::{instant, numbers, pair};
+pub use values::{numbers, pair};
 
 use crate::grammar::Grammar;
 use crate::{date, delta, etag, language, media, products, qvalue, url, version, Refusal};
@@ -67,11 +69,11 @@ impl Kind {
         })
     }
 
-    /// The refusal of a header value.
+    /// The refusal of a header value; of a date, with the present year of the old results.
     pub fn refusal(self, input: &[u8]) -> Option<Refusal> {
         match self {
             Kind::Version => version::read(input).err(),
-            Kind::Date => date::read(input).err(),
+            Kind::Date => date::read(input, date::BASE_YEAR).err(),
             Kind::Delta => delta::read(input).err(),
             Kind::Qvalue => qvalue::read(input).err(),
             Kind::Language => language::read(input).err(),

@@ -1,5 +1,5 @@
 //! HTTP/1.1 protocol parameters and chunked bodies, written from documents 01 and 02 alone; of the latter
-//! requests (i), (iii), (iv) and (xii).
+//! requests (i), (ii), (iii), (iv) and (xii).
 //!
 //! Each rule of the document is a grammar value. A matcher follows every alternative of it, which gives the
 //! longest beginning that can still be completed; limits are checked afterwards, over the parts of that beginning.
@@ -134,5 +134,5 @@ fn fit(bytes: Vec<u8>, out_len: usize) -> Result<Vec<u8>, Refusal> {
     Ok(bytes)
 }
 
-/// Refusal 9, which every writer gives first, and so does the reader of ranges.
+/// Refusal 9, which every writer gives first, and so do the readers of ranges and of dates.
 const OUT_OF_RANGE: Refusal = Refusal::new(number::ARGUMENT_OUT_OF_RANGE, 0);

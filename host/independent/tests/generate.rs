@@ -7,9 +7,10 @@ use independent::generate::{any, at_limits, cuttings, every_cutting, pair, piece
 use independent::generate::{any_body, body, body_with_names};
 use independent::generate::{capped_range_sets, content_range, counted_range_sets, damaged_range_set};
 use independent::generate::{entity_lengths, long_range_sets, range_set, short_range_sets};
+use independent::generate::{present_year, present_years, rfc850_date, two_digit_years};
 use independent::grammar::parse;
 use independent::ranges::{self, Ranges};
-use independent::{delta, etag, language, media, url, version, Refused, Which};
+use independent::{date, delta, etag, language, media, url, version, Refused, Which};
 use std::cmp::Ordering;
 use std::collections::{BTreeSet, HashSet};
 
@@ -80,6 +81,84 @@ fn seconds_of_about_8192_digits() {
             let zeros = "0".repeat(length - tail.len());
             assert!(inputs.contains(format!("{zeros}{tail}").as_bytes()), "{length}, {tail}");
         }
+    }
+}
+
+/// The range's own ends, the years beside them, and those that no clock shows; most are in range.
+#[test]
+fn present_years_on_both_sides() {
+    let mut rng = Rng::new(17);
+    let random: Vec<_> = (0..ROUNDS).map(|_| present_year(&mut rng)).collect();
+    for year in [0, 1631, 1632, 1633, 2018, 2019, 2020, 2026, 9948, 9949, 9950, u32::MAX] {
+        assert!(present_years().contains(&year) && random.contains(&year), "{year}");
+    }
+    let in_range = random.iter().filter(|year| (1632..=9949).contains(*year)).count();
+    assert!(in_range > ROUNDS * 3 / 4 && in_range < ROUNDS * 19 / 20, "{in_range}");
+    let different: HashSet<_> = random.iter().collect();
+    assert!(different.len() > 5_000, "{}", different.len());
+}
+
+/// The refusal's number, and 0 where there is none.
+fn date_number(input: &[u8], present_year: u32) -> u8 {
+    date::read(input, present_year).map_or_else(|refusal| refusal.number, |_| 0)
+}
+
+/// Most are read, as years from one end of the window to the other; the rest is 3 or 4.
+#[test]
+fn dates_in_the_rfc850_form() {
+    let mut rng = Rng::new(18);
+    for present in [1632, 1850, 2019, 2026, 9949] {
+        let inputs: Vec<_> = (0..ROUNDS / 4).map(|_| rfc850_date(present, &mut rng)).collect();
+        let whole = |input: &Vec<u8>| parse(date::grammar(), input).end == Some(input.len());
+        assert!(inputs.iter().all(|input| input.windows(3).any(|part| part == b"day") && whole(input)));
+        let count = |number| inputs.iter().filter(|input| date_number(input, present) == number).count();
+        assert!(count(0) > inputs.len() / 2 && count(3) > inputs.len() / 20 && count(4) > inputs.len() / 20);
+        assert_eq!(count(0) + count(3) + count(4), inputs.len());
+        let years: BTreeSet<_> =
+            inputs.iter().filter_map(|input| date::read(input, present).ok()).map(|date| date.year).collect();
+        assert!(years.into_iter().map(u32::from).eq(present - 49..=present + 50), "{present}");
+    }
+}
+
+/// Present years out of range have dates too.
+#[test]
+fn dates_without_a_window() {
+    let mut rng = Rng::new(20);
+    for present in [0, 1631, 9950, u32::MAX] {
+        let input = rfc850_date(present, &mut rng);
+        assert_eq!(parse(date::grammar(), &input).end, Some(input.len()), "{present}");
+        assert_eq!(date_number(&input, present), 9, "{present}");
+    }
+}
+
+/// Day names that are right a century off; and 29 February of `00`, which is always 3 but where 2000 is chosen.
+#[test]
+fn dates_of_the_centuries_beside() {
+    let mut rng = Rng::new(19);
+    let inputs: Vec<_> = (0..ROUNDS).map(|_| rfc850_date(2019, &mut rng)).collect();
+    let other = |present| {
+        let wrong_now = |input: &&Vec<u8>| date_number(input, 2019) == 4 && date_number(input, present) == 0;
+        inputs.iter().filter(wrong_now).count()
+    };
+    assert!(other(1919) > ROUNDS / 50 && other(2119) > ROUNDS / 50, "{}, {}", other(1919), other(2119));
+    for (present, expected) in [(1850, &[3][..]), (2019, &[0, 3, 4])] {
+        let inputs: Vec<_> = (0..ROUNDS).map(|_| rfc850_date(present, &mut rng)).collect();
+        let leap_days = inputs.iter().filter(|input| has(&[input.to_vec()], "29-Feb-00"));
+        let numbers: BTreeSet<_> = leap_days.map(|input| date_number(input, present)).collect();
+        assert_eq!(numbers, expected.iter().copied().collect(), "{present}");
+    }
+}
+
+/// Under each present year one name fits each of 300 days, and each 29 February that exists. There are 25 of these
+/// from 1970 to 2069 and from 1583 to 1682, but 24 from 1801 to 1900 and from 9900 to 9999; the others are 3.
+#[test]
+fn every_two_digit_year() {
+    let inputs = two_digit_years();
+    assert_eq!(inputs.len(), 100 * 4 * 7);
+    for (present, leap_days) in [(2019, 25), (1850, 24), (1632, 25), (9949, 24)] {
+        let count = |number| inputs.iter().filter(|input| date_number(input, present) == number).count();
+        assert_eq!((count(0), count(3)), (300 + leap_days, (100 - leap_days) * 7), "{present}");
+        assert_eq!(count(4), (300 + leap_days) * 6, "{present}");
     }
 }
 

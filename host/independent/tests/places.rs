@@ -1,7 +1,8 @@
 //! The place of refusal 1, and what must hold of any input.
 
 use independent::date;
-use independent::generate::{any, at_limits, every, instant, pair, short, valid, Kind, Rng, HEADER_KINDS};
+use independent::generate::{any, at_limits, every, instant, pair, present_year, short, valid};
+use independent::generate::{Kind, Rng, HEADER_KINDS};
 use independent::grammar::{parse, Grammar};
 use independent::number::{MALFORMED, VALUE_TOO_LONG};
 use independent::{etag, language, media, url, version, Refusal, HEADER_LIMIT};
@@ -133,16 +134,17 @@ fn symmetric(compare: Comparison, one: &[u8], other: &[u8], equal: &mut usize) {
     *equal += usize::from(answer == Some(true));
 }
 
+/// With any present year.
 #[test]
 fn written_dates_are_read_back() {
     let mut rng = Rng::new(3);
     for _ in 0..ROUNDS {
-        let seconds = instant(&mut rng);
+        let (seconds, present_year) = (instant(&mut rng), present_year(&mut rng).clamp(1632, 9949));
         let inside = (date::EARLIEST..=date::LATEST).contains(&seconds);
         let written = date::write(seconds, date::LENGTH);
         assert_eq!(written.is_ok(), inside);
         if let Ok(text) = written {
-            assert_eq!(date::read(&text).ok(), date::at(seconds));
+            assert_eq!(date::read(&text, present_year).ok(), date::at(seconds));
         }
     }
 }

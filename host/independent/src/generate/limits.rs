@@ -1,6 +1,6 @@
 //! Inputs at each limit, on both sides of it; not at that of refusal 14, which takes too many bytes.
 
-use super::values::date_forms;
+use super::dates::date_forms;
 use super::Kind;
 use crate::chunked::{FORBIDDEN_FIELDS, LINE_LIMIT, TRAILER_LIMIT};
 use crate::date::{Date, DAY_NAMES};
@@ -108,7 +108,8 @@ fn seconds() -> Vec<Vec<u8>> {
     inputs
 }
 
-/// Each number of a date on both sides of its bounds, in every form and under every name of a day.
+/// Each number of a date on both sides of its bounds, in every form and under every name of a day. Of the
+/// two-digit years, 69 and 70 end the window of 2019, 82 and 83 that of 1632, 99 and 00 that of 9949.
 fn dates() -> Vec<Vec<u8>> {
     let years = [0, 1582, 1583, 1584, 1600, 1700, 1900, 1969, 1970, 1999, 2000, 2069, 2070, 2100, 9999];
     let days =

@@ -1,7 +1,6 @@
 //! Header values: a meaning is drawn first, then spelled, so that two spellings of one meaning can be compared.
 
-use super::{bodies, damage, Kind, Rng};
-use crate::date::{self, DAY_NAMES, EARLIEST, LATEST, MONTH_NAMES};
+use super::{bodies, damage, dates, Kind, Rng};
 use crate::delta::SECONDS_LIMIT;
 use crate::url::PORT_LIMIT;
 use crate::version::NUMBER_LIMIT;
@@ -19,7 +18,7 @@ pub(super) const DIGITS: &[u8] = b"0123456789";
 pub(super) fn value(kind: Kind, rng: &mut Rng) -> Vec<u8> {
     match kind {
         Kind::Version => version(numbers(rng), rng),
-        Kind::Date => date(rng),
+        Kind::Date => dates::date(rng),
         Kind::Delta => seconds(rng),
         Kind::Qvalue => qvalue(rng),
         Kind::Language => language(rng),
@@ -130,59 +129,6 @@ pub fn numbers(rng: &mut Rng) -> (u64, u64) {
 fn version((major, minor): (u64, u64), rng: &mut Rng) -> Vec<u8> {
     let name = any_case(b"HTTP/", rng);
     [name, spell_number(major, rng), b".".to_vec(), spell_number(minor, rng)].concat()
-}
-
-/// The ends of the range, of years and of leap days, and the instants next to 1970.
-const NOTABLE_INSTANTS: [i64; 7] = [EARLIEST, LATEST, -1, 0, 951_782_400, 4_107_542_399, 946_684_799];
-
-/// An instant for the writer of dates; a few are just outside the range.
-pub fn instant(rng: &mut Rng) -> i64 {
-    match rng.below(16) {
-        0 => EARLIEST - 1 - rng.below(2) as i64,
-        1 => LATEST + 1 + rng.below(2) as i64,
-        _ => inside(rng),
-    }
-}
-
-fn inside(rng: &mut Rng) -> i64 {
-    let span = (LATEST - EARLIEST + 1) as u64;
-    match rng.below(4) {
-        0 => EARLIEST + (rng.word() % span) as i64,
-        1 => rng.pick(&NOTABLE_INSTANTS),
-        // Two-digit years reach from 1970 to 2069.
-        _ => (rng.word() % 3_155_760_000) as i64,
-    }
-}
-
-fn date(rng: &mut Rng) -> Vec<u8> {
-    let seconds = inside(rng);
-    let Some(mut fields) = date::at(seconds) else { return Vec::new() };
-    let mut name = date::day_of_week(seconds);
-    match rng.below(16) {
-        0 => fields.day = rng.below(40) as u8,
-        1 => fields.month = 1 + rng.below(12) as u8,
-        2 => name = rng.below(7),
-        3 => fields.hour = rng.below(30) as u8,
-        4 => (fields.minute, fields.second) = (rng.below(65) as u8, rng.below(65) as u8),
-        5 if rng.once_in(3) => fields.year = rng.below(10_000) as u16,
-        _ => {}
-    }
-    let forms = date_forms(fields, DAY_NAMES[name]);
-    forms[rng.below(forms.len())].clone().into_bytes()
-}
-
-/// The three forms, asctime's with either spelling of the day.
-pub(super) fn date_forms(fields: date::Date, name: &str) -> [String; 4] {
-    let date::Date { year, month, day, hour, minute, second, .. } = fields;
-    let month = MONTH_NAMES[usize::from(month) - 1];
-    let time = format!("{hour:02}:{minute:02}:{second:02}");
-    let short = &name[..3];
-    [
-        format!("{short}, {day:02} {month} {year:04} {time} GMT"),
-        format!("{name}, {day:02}-{month}-{:02} {time} GMT", year % 100),
-        format!("{short} {month} {day:2} {time} {year:04}"),
-        format!("{short} {month} {day:02} {time} {year:04}"),
-    ]
 }
 
 fn qvalue(rng: &mut Rng) -> Vec<u8> {
