@@ -401,7 +401,7 @@ QzFed qz_pieces_feed(QzPieces pieces, const uint8_t *piece, size_t piece_len, si
 
 /* The version of this header; qz_library_version gives that of the library which is linked. */
 #define QZ_VERSION_MAJOR 0
-#define QZ_VERSION_MINOR 6
+#define QZ_VERSION_MINOR 7
 #define QZ_VERSION_PATCH 0
 
 /* The version of the library. */
