@@ -1,11 +1,11 @@
 -- The three forms, each alone: a date is of one of them, and only that of RFC 850 has a year of two digits.
 use Prim.Native.Nat.{ℕ}
 use mathlib.Core.Path.{_≡_, refl, ap, subst, _∙_}
-use mathlib.Core.Logic.{_⊎_, inl, inr, ⊎-elim}
+use mathlib.Core.Logic.{inl, inr, ⊎-elim}
 use mathlib.Core.Bool.{Bool, true, false}
 use mathlib.Core.List.{List, [], _∷_}
 use lib.Dec.{T, ltb}
-use Rattle.grammar.specs.Grammar.{Part, Grammar, Parses, empty, _⨾_, _∣_, part, lit, past, bytes?, T-right}
+use Rattle.grammar.specs.Grammar.{Part, Grammar, Parses, empty, byte, _⨾_, _∣_, part, just, lit, past, bytes?, T-left, T-right}
 use Rattle.grammar.specs.Text.{bytes}
 use Rattle.grammar.specs.helpers.Judge.{header}
 use Rattle.grammar.proofs.Deterministic.{deterministic?}
@@ -23,80 +23,93 @@ one-way = tt
 
 -- ## One of the three
 
--- what holds of g's texts holds behind a word
-lit-map : (w : List ℕ) (p : T (bytes? w)) (g h : Grammar Name) → ((i : ℕ) (s : List ℕ) (ps : List (Part Name)) → Parses g i s ps → Parses h i s ps)
-    → (i : ℕ) (s : List ℕ) (ps : List (Part Name)) → Parses (lit w p g) i s ps → Parses (lit w p h) i s ps
-lit-map [] p g h f i s ps m = f i s ps m
-lit-map (b ∷ w) p g h f i s ps m =
-    (m .0, m .1, m .2, m .3, m .4, m .5, m .6, lit-map w (T-right (ltb b 256) (bytes? w) p) g h f (past i (m .0)) (m .1) (m .3) (m .7))
+-- each text of g is one of h, with the same parts
+abbrev Within : Grammar Name → Grammar Name → Type 0
+Within g h = (i : ℕ) (s : List ℕ) (ps : List (Part Name)) → Parses g i s ps → Parses h i s ps
 
-lit-either : (w : List ℕ) (p : T (bytes? w)) (g h : Grammar Name) (i : ℕ) (s : List ℕ) (ps : List (Part Name))
-    → Parses (lit w p (g ∣ h)) i s ps → Parses (lit w p g) i s ps ⊎ Parses (lit w p h) i s ps
+lit-within : (w : List ℕ) (p : T (bytes? w)) (g h : Grammar Name) → Within g h → Within (lit w p g) (lit w p h)
+lit-within [] p g h f i s ps m = f i s ps m
+lit-within (b ∷ w) p g h f i s ps m =
+    let q = T-right (ltb b 256) (bytes? w) p in
+    (m .0, m .1, m .2, m .3, m .4, m .5, m .6, lit-within w q g h f (past i (m .0)) (m .1) (m .3) (m .7))
+
+-- what stands behind a text of f is of g or of h
+behind-either : (f g h : Grammar Name) → Within (f ⨾ (g ∣ h)) ((f ⨾ g) ∣ (f ⨾ h))
+behind-either f g h i s ps (t, u, qs, rs, e, q, m, inl x) = inl (t, u, qs, rs, e, q, m, x)
+behind-either f g h i s ps (t, u, qs, rs, e, q, m, inr x) = inr (t, u, qs, rs, e, q, m, x)
+
+lit-either : (w : List ℕ) (p : T (bytes? w)) (g h : Grammar Name) → Within (lit w p (g ∣ h)) (lit w p g ∣ lit w p h)
 lit-either [] p g h i s ps m = m
-lit-either (b ∷ w) p g h i s ps m =
-    ⊎-elim (λ x. inl (m .0, m .1, m .2, m .3, m .4, m .5, m .6, x)) (λ x. inr (m .0, m .1, m .2, m .3, m .4, m .5, m .6, x))
-    (lit-either w (T-right (ltb b 256) (bytes? w) p) g h (past i (m .0)) (m .1) (m .3) (m .7))
+lit-either (b ∷ w) p g h i s ps (t, u, qs, rs, e, q, m, x) =
+    let r = T-right (ltb b 256) (bytes? w) p in
+    let c = just b (T-left (ltb b 256) (bytes? w) p) in
+    behind-either (byte c) (lit w r g) (lit w r h) i s ps (t, u, qs, rs, e, q, m, lit-either w r g h (past i t) u rs x)
 
-module _ (k : ℕ) (w : List ℕ) (p : T (bytes? w)) (g h : Grammar Name) (i : ℕ) (s : List ℕ) (ps : List (Part Name)) where
-  day-map : ((i : ℕ) (s : List ℕ) (ps : List (Part Name)) → Parses g i s ps → Parses h i s ps) → Parses (on-day k w p g) i s ps → Parses (on-day k w p h) i s ps
-  day-map f =
-      lit-map w p (part (weekday k) empty ⨾ g) (part (weekday k) empty ⨾ h)
-      (λ i s ps m. (m .0, m .1, m .2, m .3, m .4, m .5, m .6, f (past i (m .0)) (m .1) (m .3) (m .7))) i s ps
+module _ (k : ℕ) (w : List ℕ) (p : T (bytes? w)) (g h : Grammar Name) where
+  abbrev behind : Grammar Name → Grammar Name
+  behind x = part (weekday k) empty ⨾ x
 
-  day-either : Parses (on-day k w p (g ∣ h)) i s ps → Parses (on-day k w p g) i s ps ⊎ Parses (on-day k w p h) i s ps
-  day-either m =
-      lit-either w p (part (weekday k) empty ⨾ g) (part (weekday k) empty ⨾ h) i s ps
-      (lit-map w p (part (weekday k) empty ⨾ (g ∣ h)) ((part (weekday k) empty ⨾ g) ∣ (part (weekday k) empty ⨾ h)) apart i s ps m)
-    where
-      apart : (i : ℕ) (s : List ℕ) (ps : List (Part Name)) → Parses (part (weekday k) empty ⨾ (g ∣ h)) i s ps
-          → Parses ((part (weekday k) empty ⨾ g) ∣ (part (weekday k) empty ⨾ h)) i s ps
-      apart i s ps m =
-          ⊎-elim (λ x. inl (m .0, m .1, m .2, m .3, m .4, m .5, m .6, x)) (λ x. inr (m .0, m .1, m .2, m .3, m .4, m .5, m .6, x)) (m .7)
+  day-within : Within g h → Within (on-day k w p g) (on-day k w p h)
+  day-within f =
+      lit-within w p (behind g) (behind h) (λ i s ps m. (m .0, m .1, m .2, m .3, m .4, m .5, m .6, f (past i (m .0)) (m .1) (m .3) (m .7)))
 
-module _ (g h : (l : List ℕ) → T (bytes? l) → Grammar Name) (i : ℕ) (s : List ℕ) (ps : List (Part Name)) where
-  module _ (f : (l : List ℕ) (p : T (bytes? l)) (i : ℕ) (s : List ℕ) (ps : List (Part Name)) → Parses (g l p) i s ps → Parses (h l p) i s ps) where
-    on : (k : ℕ) (w : List ℕ) (p : T (bytes? w)) (l : List ℕ) (q : T (bytes? l)) → Parses (on-day k w p (g l q)) i s ps → Parses (on-day k w p (h l q)) i s ps
-    on k w p l q = day-map k w p (g l q) (h l q) i s ps (f l q)
+  day-either : Within (on-day k w p (g ∣ h)) (on-day k w p g ∣ on-day k w p h)
+  day-either i s ps m =
+      lit-either w p (behind g) (behind h) i s ps
+      (lit-within w p (behind (g ∣ h)) (behind g ∣ behind h) (behind-either (part (weekday k) empty) g h) i s ps m)
 
-    days-map : Parses (days g) i s ps → Parses (days h) i s ps
-    days-map (inl m) = inl (on 0 (bytes "Mon") tt (bytes "day") tt m)
-    days-map (inr (inl m)) = inr (inl (on 1 (bytes "Tue") tt (bytes "sday") tt m))
-    days-map (inr (inr (inl m))) = inr (inr (inl (on 2 (bytes "Wed") tt (bytes "nesday") tt m)))
-    days-map (inr (inr (inr (inl m)))) = inr (inr (inr (inl (on 3 (bytes "Thu") tt (bytes "rsday") tt m))))
-    days-map (inr (inr (inr (inr (inl m))))) = inr (inr (inr (inr (inl (on 4 (bytes "Fri") tt (bytes "day") tt m)))))
-    days-map (inr (inr (inr (inr (inr (inl m)))))) = inr (inr (inr (inr (inr (inl (on 5 (bytes "Sat") tt (bytes "urday") tt m))))))
-    days-map (inr (inr (inr (inr (inr (inr m)))))) = inr (inr (inr (inr (inr (inr (on 6 (bytes "Sun") tt (bytes "day") tt m))))))
+module _ (g h : (l : List ℕ) → T (bytes? l) → Grammar Name) where
+  module _ (f : (l : List ℕ) (p : T (bytes? l)) → Within (g l p) (h l p)) where
+    on : (k : ℕ) (w : List ℕ) (p : T (bytes? w)) (l : List ℕ) (q : T (bytes? l)) → Within (on-day k w p (g l q)) (on-day k w p (h l q))
+    on k w p l q = day-within k w p (g l q) (h l q) (f l q)
 
-  apart : (k : ℕ) (w : List ℕ) (p : T (bytes? w)) (l : List ℕ) (q : T (bytes? l)) → Parses (on-day k w p (g l q ∣ h l q)) i s ps
-      → Parses (on-day k w p (g l q)) i s ps ⊎ Parses (on-day k w p (h l q)) i s ps
-  apart k w p l q = day-either k w p (g l q) (h l q) i s ps
+    days-within : Within (days g) (days h)
+    days-within i s ps (inl m) = inl (on 0 (bytes "Mon") tt (bytes "day") tt i s ps m)
+    days-within i s ps (inr (inl m)) = inr (inl (on 1 (bytes "Tue") tt (bytes "sday") tt i s ps m))
+    days-within i s ps (inr (inr (inl m))) = inr (inr (inl (on 2 (bytes "Wed") tt (bytes "nesday") tt i s ps m)))
+    days-within i s ps (inr (inr (inr (inl m)))) = inr (inr (inr (inl (on 3 (bytes "Thu") tt (bytes "rsday") tt i s ps m))))
+    days-within i s ps (inr (inr (inr (inr (inl m))))) = inr (inr (inr (inr (inl (on 4 (bytes "Fri") tt (bytes "day") tt i s ps m)))))
+    days-within i s ps (inr (inr (inr (inr (inr (inl m)))))) =
+        inr (inr (inr (inr (inr (inl (on 5 (bytes "Sat") tt (bytes "urday") tt i s ps m))))))
+    days-within i s ps (inr (inr (inr (inr (inr (inr m)))))) =
+        inr (inr (inr (inr (inr (inr (on 6 (bytes "Sun") tt (bytes "day") tt i s ps m))))))
 
-  days-either : Parses (days (λ l p. g l p ∣ h l p)) i s ps → Parses (days g) i s ps ⊎ Parses (days h) i s ps
-  days-either (inl m) =
-      ⊎-elim (λ x. inl (inl x)) (λ x. inr (inl x)) (apart 0 (bytes "Mon") tt (bytes "day") tt m)
-  days-either (inr (inl m)) =
-      ⊎-elim (λ x. inl (inr (inl x))) (λ x. inr (inr (inl x))) (apart 1 (bytes "Tue") tt (bytes "sday") tt m)
-  days-either (inr (inr (inl m))) =
-      ⊎-elim (λ x. inl (inr (inr (inl x)))) (λ x. inr (inr (inr (inl x)))) (apart 2 (bytes "Wed") tt (bytes "nesday") tt m)
-  days-either (inr (inr (inr (inl m)))) =
-      ⊎-elim (λ x. inl (inr (inr (inr (inl x))))) (λ x. inr (inr (inr (inr (inl x))))) (apart 3 (bytes "Thu") tt (bytes "rsday") tt m)
-  days-either (inr (inr (inr (inr (inl m))))) =
-      ⊎-elim (λ x. inl (inr (inr (inr (inr (inl x)))))) (λ x. inr (inr (inr (inr (inr (inl x)))))) (apart 4 (bytes "Fri") tt (bytes "day") tt m)
-  days-either (inr (inr (inr (inr (inr (inl m)))))) =
-      ⊎-elim (λ x. inl (inr (inr (inr (inr (inr (inl x))))))) (λ x. inr (inr (inr (inr (inr (inr (inl x))))))) (apart 5 (bytes "Sat") tt (bytes "urday") tt m)
-  days-either (inr (inr (inr (inr (inr (inr m)))))) =
-      ⊎-elim (λ x. inl (inr (inr (inr (inr (inr (inr x))))))) (λ x. inr (inr (inr (inr (inr (inr (inr x))))))) (apart 6 (bytes "Sun") tt (bytes "day") tt m)
+  apart : (k : ℕ) (w : List ℕ) (p : T (bytes? w)) (l : List ℕ) (q : T (bytes? l))
+      → Within (on-day k w p (g l q ∣ h l q)) (on-day k w p (g l q) ∣ on-day k w p (h l q))
+  apart k w p l q = day-either k w p (g l q) (h l q)
 
-module _ (i : ℕ) (s : List ℕ) (ps : List (Part Name)) where
-  pub one-of-three : Parses date i s ps → Parses rfc1123-date i s ps ⊎ (Parses rfc850-date i s ps ⊎ Parses asctime-date i s ps)
-  one-of-three m =
-      ⊎-elim inl (λ x. inr (days-either (λ l p. lit l p rfc850) (λ l p. asctime) i s ps x))
-      (days-either (λ l p. rfc1123) (λ l p. lit l p rfc850 ∣ asctime) i s ps m)
+  days-either : Within (days (λ l p. g l p ∣ h l p)) (days g ∣ days h)
+  days-either i s ps (inl m) =
+      ⊎-elim (λ x. inl (inl x)) (λ x. inr (inl x))
+      (apart 0 (bytes "Mon") tt (bytes "day") tt i s ps m)
+  days-either i s ps (inr (inl m)) =
+      ⊎-elim (λ x. inl (inr (inl x))) (λ x. inr (inr (inl x)))
+      (apart 1 (bytes "Tue") tt (bytes "sday") tt i s ps m)
+  days-either i s ps (inr (inr (inl m))) =
+      ⊎-elim (λ x. inl (inr (inr (inl x)))) (λ x. inr (inr (inr (inl x))))
+      (apart 2 (bytes "Wed") tt (bytes "nesday") tt i s ps m)
+  days-either i s ps (inr (inr (inr (inl m)))) =
+      ⊎-elim (λ x. inl (inr (inr (inr (inl x))))) (λ x. inr (inr (inr (inr (inl x)))))
+      (apart 3 (bytes "Thu") tt (bytes "rsday") tt i s ps m)
+  days-either i s ps (inr (inr (inr (inr (inl m))))) =
+      ⊎-elim (λ x. inl (inr (inr (inr (inr (inl x)))))) (λ x. inr (inr (inr (inr (inr (inl x))))))
+      (apart 4 (bytes "Fri") tt (bytes "day") tt i s ps m)
+  days-either i s ps (inr (inr (inr (inr (inr (inl m)))))) =
+      ⊎-elim (λ x. inl (inr (inr (inr (inr (inr (inl x))))))) (λ x. inr (inr (inr (inr (inr (inr (inl x)))))))
+      (apart 5 (bytes "Sat") tt (bytes "urday") tt i s ps m)
+  days-either i s ps (inr (inr (inr (inr (inr (inr m)))))) =
+      ⊎-elim (λ x. inl (inr (inr (inr (inr (inr (inr x))))))) (λ x. inr (inr (inr (inr (inr (inr (inr x)))))))
+      (apart 6 (bytes "Sun") tt (bytes "day") tt i s ps m)
 
-  pub any-of-three : Parses rfc1123-date i s ps ⊎ (Parses rfc850-date i s ps ⊎ Parses asctime-date i s ps) → Parses date i s ps
-  any-of-three (inl m) = days-map (λ l p. rfc1123) forms i s ps (λ l p i s ps x. inl x) m
-  any-of-three (inr (inl m)) = days-map (λ l p. lit l p rfc850) forms i s ps (λ l p i s ps x. inr (inl x)) m
-  any-of-three (inr (inr m)) = days-map (λ l p. asctime) forms i s ps (λ l p i s ps x. inr (inr x)) m
+pub one-of-three : Within date (rfc1123-date ∣ rfc850-date ∣ asctime-date)
+one-of-three i s ps m =
+    ⊎-elim inl (λ x. inr (days-either (λ l p. lit l p rfc850) (λ l p. asctime) i s ps x))
+    (days-either (λ l p. rfc1123) (λ l p. lit l p rfc850 ∣ asctime) i s ps m)
+
+pub any-of-three : Within (rfc1123-date ∣ rfc850-date ∣ asctime-date) date
+any-of-three i s ps (inl m) = days-within (λ l p. rfc1123) forms (λ l p i s ps x. inl x) i s ps m
+any-of-three i s ps (inr (inl m)) = days-within (λ l p. lit l p rfc850) forms (λ l p i s ps x. inr (inl x)) i s ps m
+any-of-three i s ps (inr (inr m)) = days-within (λ l p. asctime) forms (λ l p i s ps x. inr (inr x)) i s ps m
 
 -- ## What two digits mean, where there are none
 
@@ -116,7 +129,8 @@ module _ (f g : ℕ → ℕ) where
   Agree [] = Unit {0}
   Agree (p ∷ ps) = (full? (p .label) ≡ false → f (number (p .text)) ≡ g (number (p .text))) × Agree ps
 
-  noted-same : (l : Name) (t : List ℕ) (x z : Said) → (full? l ≡ false → f (number t) ≡ g (number t)) → x ≡ z → noted f l t x ≡ noted g l t z
+  noted-same : (l : Name) (t : List ℕ) (x z : Said) → (full? l ≡ false → f (number t) ≡ g (number t)) → x ≡ z
+      → noted f l t x ≡ noted g l t z
   noted-same (weekday k) t x z a e = ap (noted f (weekday k) t) e
   noted-same (month k) t x z a e = ap (noted f (month k) t) e
   noted-same day t x z a e = ap (noted f day t) e
@@ -139,10 +153,15 @@ module _ (f g : ℕ → ℕ) where
   agree-full (p ∷ ps) a = (λ x. absurd (subst T x (a .0)), agree-full ps (a .1))
 
   -- where they agree on the parts of s, if it is a date, the answers are the same
-  pub same-answer : (s : List ℕ) → ((ps : List (Part Name)) → Parses date 0 s ps → Agree ps) → header (rules-with f) s ≡ header (rules-with g) s
+  pub same-answer : (s : List ℕ) → ((ps : List (Part Name)) → Parses date 0 s ps → Agree ps)
+      → header (rules-with f) s ≡ header (rules-with g) s
   same-answer s agree =
       same-meaning (rules-with g) (rules-with f .fault) (rules-with f .value) tt tt one-way s
-      (λ ps m. let e = said-same ps (agree ps m) in (ap (λ (x : Said). fault-of (x .named) (x .fields)) e, ap (λ (x : Said). value-of (x .fields)) e))
+      (λ ps m. meant (said-same ps (agree ps m)))
+    where
+      meant : {x z : Said} → x ≡ z
+          → (fault-of (x .named) (x .fields) ≡ fault-of (z .named) (z .fields)) × (value-of (x .fields) ≡ value-of (z .fields))
+      meant e = (ap (λ (x : Said). fault-of (x .named) (x .fields)) e, ap (λ (x : Said). value-of (x .fields)) e)
 
 -- the other two forms have no year of two digits
 pub rfc1123-full : (s : List ℕ) (ps : List (Part Name)) → Parses rfc1123-date 0 s ps → Labelled full? ps

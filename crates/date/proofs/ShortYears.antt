@@ -37,8 +37,8 @@ says-lit {g} w p f = record { of = go w p }
 
 says-day : {g : Grammar Name} (k : ℕ) → Says g → Says (part (weekday k) empty ⨾ g)
 says-day k f = record {
-  of = λ i s ps m. subst SaysShort (sym (m .5 ∙ ap (λ (qs : List (Part Name)). qs ++ m .3) (plain-part (weekday k) empty plain-empty i (m .0) (m .2) (m .6))))
-      (f .of (past i (m .0)) (m .1) (m .3) (m .7));
+  of = λ i s ps m. let named = plain-part (weekday k) empty plain-empty i (m .0) (m .2) (m .6) in
+      subst SaysShort (sym (m .5 ∙ ap (λ (qs : List (Part Name)). qs ++ m .3) named)) (f .of (past i (m .0)) (m .1) (m .3) (m .7));
 }
 
 says-month : {g : Grammar Name} → Says g → Says (months ⨾ g)

@@ -14,14 +14,17 @@ use Rattle.date.proofs.read.Tie as tie
 returns : tie.Need-returns
 returns c =
     let a = c .before .before .before .args in
-    reading-outside (a .present) (a .s .now) (sym (c .before .is-present-year .ensures) ∙ not-true (c .before .is-present-year .result) (c .if1 .taken))
+    let test = c .before .is-present-year in
+    reading-outside (a .present) (a .s .now) (sym (test .ensures) ∙ not-true (test .result) (c .if1 .taken))
 
 -- behind the test of the present year
 abbrev entry : tie.Else1 → tie.Start
 entry c = c .before .before .before
 
 within : (c : tie.Else1) → present-year? (entry c .args .present) ≡ true
-within c = sym (c .before .is-present-year .ensures) ∙ not-false (c .before .is-present-year .result) (c .if1 .left)
+within c =
+    let test = c .before .is-present-year in
+    sym (test .ensures) ∙ not-false (test .result) (c .if1 .left)
 
 returns-2 : tie.Need-returns-2
 returns-2 c =
