@@ -165,7 +165,7 @@ rules-with years = record {
   value = λ ps. value-of (said years ps .fields);
 }
 
--- in the present year
+-- in a present year
 abbrev pub rules : (present : ℕ) → Rules Name Date
 rules y = rules-with (full-year y)
 
