@@ -20,7 +20,8 @@
 //! ```
 //!
 //! No function keeps anything between calls, so that any number of threads may call them; what is known of a body
-//! that arrives in pieces is in its [`Pieces`].
+//! that arrives in pieces is in its [`Pieces`]. [`date_read_now`] alone looks at the clock; [`date_read`] takes the
+//! present year, which says what two digits of a year mean.
 //!
 //! The crate has no dependency but the library's archive, `libquizotepec.a`. Its build script takes that of the
 //! folder `QUIZOTEPEC_LIB_DIR`, or else the one that `host/archive` makes in the repository. The oldest rustc for
@@ -48,7 +49,10 @@ mod url;
 mod version;
 
 pub use chunked::{chunked_decode, chunked_encode, Decoded};
-pub use dates::{date_read, date_write, date_write_time, Date};
+pub use dates::{
+    date_read, date_read_at, date_read_now, date_write, date_write_time, Date, FIRST_PRESENT_YEAR,
+    LAST_PRESENT_YEAR,
+};
 pub use etag::{etag_read, etag_strong_match, etag_weak_match, EntityTag};
 pub use language::{language_equal, language_read, LanguageTag};
 pub use library::{library_version, LibraryVersion};
