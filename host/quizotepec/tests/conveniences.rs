@@ -2,13 +2,14 @@
 
 mod common;
 
-use common::{at, lend, writes, RANDOM};
+use common::{at, date_of, lend, refusal, writes, RANDOM};
 use independent::date;
-use independent::date::{EARLIEST, LATEST, LENGTH};
-use independent::generate::{any, instant, numbers, pair, Kind, Rng};
+use independent::date::{DAY_NAMES, EARLIEST, LATEST, LENGTH};
+use independent::generate::{any, instant, numbers, pair, present_year, rfc850_date, Kind, Rng};
 use quizotepec::{
-    date_read, date_write, date_write_time, etag_read, language_read, media_charset, media_read, ranges_read,
-    url_read, version_compare, version_read, version_write, Charset, Date, Range, Ranges, Span, Version,
+    date_read, date_read_at, date_read_now, date_write, date_write_time, etag_read, language_read,
+    media_charset, media_read, ranges_read, url_read, version_compare, version_read, version_write, Charset,
+    Date, Range, Ranges, Refusal, Span, Version, FIRST_PRESENT_YEAR, LAST_PRESENT_YEAR,
 };
 use std::ops::RangeInclusive;
 use std::time::{Duration, SystemTime, UNIX_EPOCH};
@@ -102,7 +103,79 @@ fn times_that_no_date_holds() {
                 "{time:?}"
             );
         }
+        assert_eq!(date_read_at(b"Sun, 06 Nov 1994 08:49:37 GMT", time), Err(at(9, 0)), "{time:?}");
+        assert_eq!(date_read_at(&[0; 8_193], time), Err(at(9, 0)), "{time:?}");
     }
+}
+
+/// The years that are read of the first of March, every two digits under every name of a day. One name fits; any other
+/// is refusal 4.
+fn years(read: impl Fn(&[u8]) -> Result<Date, Refusal>) -> Result<Vec<u32>, Refusal> {
+    let named = |digits| DAY_NAMES.map(|name| format!("{name}, 01-Mar-{digits:02} 00:00:00 GMT"));
+    let answers = (0..100).flat_map(named).map(|text| read(text.as_bytes()).map(|date| date.year));
+    let mut years = answers.filter(|answer| *answer != Err(at(4, 0))).collect::<Result<Vec<_>, _>>()?;
+    years.sort_unstable();
+    Ok(years)
+}
+
+/// "the year from Y-49 to Y+50 with those digits"
+fn hundred_years(present_year: u32) -> Vec<u32> {
+    (present_year - 49..=present_year + 50).collect()
+}
+
+/// The last nanosecond of a year and the first of the next, at both ends of the present years and of all years.
+#[test]
+fn present_years_of_times() {
+    for (year, start) in [
+        (1583, -12_212_553_600),
+        (1632, -10_666_252_800),
+        (1633, -10_634_630_400),
+        (1969, -31_536_000),
+        (1970, 0),
+        (1971, 31_536_000),
+        (2027, 1_798_761_600),
+        (9949, 251_792_928_000),
+        (9950, 251_824_464_000),
+        (10_000, 253_402_300_800),
+    ] {
+        for (year, nanos) in [(year - 1, start * NANOS - 1), (year, start * NANOS)] {
+            let expected = match year {
+                1632..=9949 => Ok(hundred_years(year)),
+                _ => Err(at(9, 0)),
+            };
+            assert_eq!(years(|text| date_read_at(text, time(nanos))), expected, "{nanos} ns");
+        }
+    }
+}
+
+#[test]
+fn dates_at_random_times() {
+    let mut rng = Rng::new(45);
+    for _ in 0..RANDOM {
+        let seconds = instant(&mut rng);
+        // A year outside every range where no date holds the time.
+        let year = date::at(seconds).map_or(0, |now| now.year.into());
+        let text = match rng.below(3) {
+            0 => any(Kind::Date, &mut rng),
+            1 => rfc850_date(present_year(&mut rng), &mut rng),
+            _ => rfc850_date(year, &mut rng),
+        };
+        let now = time(i128::from(seconds) * NANOS + i128::from(rng.below(NANOS as usize) as u32));
+        let expected = date::read(&text, year).map(date_of).map_err(refusal);
+        assert_eq!(date_read_at(&text, now), expected, "{text:?} at {seconds}");
+    }
+}
+
+/// The clock's year may change while the test runs.
+#[test]
+fn dates_now() {
+    let clock = || {
+        let since = UNIX_EPOCH.elapsed().expect("a clock past 1970").as_secs() as i64;
+        u32::from(date::at(since).expect("a clock before 10000").year)
+    };
+    let before = clock();
+    let answer = years(date_read_now);
+    assert!((before..=clock()).any(|year| answer == Ok(hundred_years(year))), "{answer:?}");
 }
 
 #[test]
@@ -113,7 +186,8 @@ fn dates_as_times() {
         let seconds = near.get(index).copied().unwrap_or_else(|| instant(&mut rng));
         let mut text = [0; LENGTH];
         assert_eq!(date_write(seconds, &mut text).is_ok(), (EARLIEST..=LATEST).contains(&seconds));
-        let Ok(date) = date_read(&text) else { continue };
+        let year = present_year(&mut rng).clamp(FIRST_PRESENT_YEAR, LAST_PRESENT_YEAR);
+        let Ok(date) = date_read(&text, year) else { continue };
         assert_eq!(date.system_time(), Some(time(i128::from(seconds) * NANOS)), "{seconds}");
         let mut again = [0; LENGTH];
         assert_eq!(date.system_time().map(|time| date_write_time(time, &mut again)), Some(Ok(LENGTH)));

@@ -1,5 +1,5 @@
-//! The examples of document 01 and of RFC 2616 section 3, as written there, and cases beside them; seconds by request
-//! (iii), byte ranges by request (iv) and trailers by request (xii) of document 02.
+//! The examples of document 01 and of RFC 2616 section 3, as written there, and cases beside them; years of two digits
+//! by request (ii), seconds by request (iii), byte ranges by request (iv) and trailers by request (xii) of document 02.
 
 mod common;
 
@@ -9,7 +9,8 @@ use quizotepec::{
     etag_strong_match, etag_weak_match, language_equal, language_read, media_charset, media_equal,
     media_read, products_read, qvalue_read, qvalue_write, ranges_read, url_equal, url_read, version_compare,
     version_read, version_write, Charset, Date, Decoded, EntityTag, LanguageTag, Parameter, Pieces, Products,
-    Range, Ranges, Refusal, Refused, Seconds, Span, Url, Version, Which,
+    Range, Ranges, Refusal, Refused, Seconds, Span, Url, Version, Which, FIRST_PRESENT_YEAR,
+    LAST_PRESENT_YEAR,
 };
 use std::cmp::Ordering;
 
@@ -328,11 +329,18 @@ fn tags() {
     assert_eq!(etag_weak_match(b"W/\"a\"", b"\"A\""), Ok(false));
 }
 
+/// "With 2019 the old results return."
+const BASE_YEAR: u32 = 2019;
+
+fn date(text: &str) -> Result<Date, Refusal> {
+    date_read(text.as_bytes(), BASE_YEAR)
+}
+
 #[test]
 fn dates() {
     let rfc = Date { year: 1994, month: 11, day: 6, hour: 8, minute: 49, second: 37, seconds: 784_111_777 };
     let grammar = Date { year: 1982, month: 6, day: 2, hour: 0, minute: 0, second: 0, seconds: 391_824_000 };
-    for (text, date) in [
+    for (text, expected) in [
         ("Sun, 06 Nov 1994 08:49:37 GMT", rfc),
         ("Sunday, 06-Nov-94 08:49:37 GMT", rfc),
         ("Sun Nov  6 08:49:37 1994", rfc),
@@ -341,7 +349,7 @@ fn dates() {
         ("Wednesday, 02-Jun-82 00:00:00 GMT", grammar),
         ("Wed Jun  2 00:00:00 1982", grammar),
     ] {
-        assert_eq!(date_read(text.as_bytes()), Ok(date), "{text}");
+        assert_eq!(date(text), Ok(expected), "{text}");
     }
     for (text, number, place) in [
         ("Mon, 06 Nov 1994 08:49:37 GMT", 4, 0),
@@ -354,12 +362,78 @@ fn dates() {
         ("Sun, 06 Nov", 1, 11),
         ("", 1, 0),
     ] {
-        assert_eq!(date_read(text.as_bytes()), no(number, place), "{text}");
+        assert_eq!(date(text), no(number, place), "{text}");
     }
-    let seconds = |text: &str| date_read(text.as_bytes()).map(|date| (date.year, date.seconds));
+    let seconds = |text: &str| date(text).map(|date| (date.year, date.seconds));
     assert_eq!(seconds("Tuesday, 31-Dec-69 00:00:00 GMT"), Ok((2069, 3_155_673_600)));
     assert_eq!(seconds("Thursday, 01-Jan-70 00:00:00 GMT"), Ok((1970, 0)));
-    assert_eq!(date_read(&[b'S'; 8_193]), no(13, 8_192));
+    assert_eq!(date_read(&[b'S'; 8_193], BASE_YEAR), no(13, 8_192));
+}
+
+fn year(present_year: u32, text: &str) -> Result<u32, Refusal> {
+    date_read(text.as_bytes(), present_year).map(|date| date.year)
+}
+
+/// "the year from Y-49 to Y+50 with those digits": its two ends.
+#[test]
+fn years_of_two_digits() {
+    for (present_year, text, expected) in [
+        (2026, "Wednesday, 01-Jan-76 00:00:00 GMT", 2076),
+        (2026, "Saturday, 01-Jan-77 00:00:00 GMT", 1977),
+        (1994, "Friday, 01-Jan-44 00:00:00 GMT", 2044),
+        (1994, "Monday, 01-Jan-45 00:00:00 GMT", 1945),
+        (2019, "Tuesday, 31-Dec-69 23:59:59 GMT", 2069),
+        (2019, "Thursday, 01-Jan-70 00:00:00 GMT", 1970),
+        (1632, "Thursday, 01-Jan-82 00:00:00 GMT", 1682),
+        (1632, "Saturday, 01-Jan-83 00:00:00 GMT", 1583),
+        (9949, "Friday, 31-Dec-99 23:59:59 GMT", 9999),
+        (9949, "Monday, 01-Jan-00 00:00:00 GMT", 9900),
+    ] {
+        assert_eq!(year(present_year, text), Ok(expected), "{text} in {present_year}");
+    }
+}
+
+/// "Day names are checked against the chosen year."
+#[test]
+fn day_names_of_the_chosen_year() {
+    for (present_year, text, answer) in [
+        // 1977 until 2026, and 2077 from 2027 on.
+        (2026, "Saturday, 01-Jan-77 00:00:00 GMT", Ok(1977)),
+        (2027, "Saturday, 01-Jan-77 00:00:00 GMT", no(4, 0)),
+        (2026, "Friday, 01-Jan-77 00:00:00 GMT", no(4, 0)),
+        (2027, "Friday, 01-Jan-77 00:00:00 GMT", Ok(2077)),
+        // 400 years have whole weeks.
+        (2426, "Saturday, 01-Jan-77 00:00:00 GMT", Ok(2377)),
+        // 2000 has a 29 February; 1900 has none, whatever the name.
+        (2019, "Tuesday, 29-Feb-00 00:00:00 GMT", Ok(2000)),
+        (1850, "Tuesday, 29-Feb-00 00:00:00 GMT", no(3, 0)),
+        (1850, "Thursday, 29-Feb-00 00:00:00 GMT", no(3, 0)),
+        (1850, "Thursday, 01-Mar-00 00:00:00 GMT", Ok(1900)),
+        (1850, "Wednesday, 01-Mar-00 00:00:00 GMT", no(4, 0)),
+        (2019, "Wednesday, 01-Mar-00 00:00:00 GMT", Ok(2000)),
+    ] {
+        assert_eq!(year(present_year, text), answer, "{text} in {present_year}");
+    }
+}
+
+/// "Y is 1632 to 9949, otherwise refusal 9 before anything is read."
+#[test]
+fn present_years() {
+    let forms =
+        ["Sun, 06 Nov 1994 08:49:37 GMT", "Sunday, 06-Nov-94 08:49:37 GMT", "Sun Nov  6 08:49:37 1994"];
+    let long = "S".repeat(8_193);
+    assert_eq!((FIRST_PRESENT_YEAR, LAST_PRESENT_YEAR), (1632, 9949));
+    for present_year in [0, 1, 94, 1582, 1583, 1631, 9950, 9999, 10_000, 65_536 + 2_019, u32::MAX] {
+        for text in forms.into_iter().chain(["", "S", "Mon, 06 Nov 1994 08:49:37 GMT", "\0", &long]) {
+            assert_eq!(year(present_year, text), no(9, 0), "{} bytes in {present_year}", text.len());
+        }
+    }
+    for present_year in [1632, 1633, 9948, 9949] {
+        assert_eq!(year(present_year, forms[0]), Ok(1994));
+        assert_eq!(year(present_year, forms[2]), Ok(1994));
+        assert_eq!(year(present_year, &long), no(13, 8_192));
+        assert_eq!(year(present_year, "S"), no(1, 1));
+    }
 }
 
 #[test]
@@ -372,7 +446,7 @@ fn instants() {
         (-12_212_553_600, "Sat, 01 Jan 1583 00:00:00 GMT"),
         (253_402_300_799, "Fri, 31 Dec 9999 23:59:59 GMT"),
     ] {
-        assert_eq!(date_read(text.as_bytes()).map(|date| date.seconds), Ok(seconds));
+        assert_eq!(date(text).map(|date| date.seconds), Ok(seconds));
         assert_eq!(write(seconds, 29, text), Ok(29));
         assert_eq!(write(seconds, 30, text), Ok(29));
         assert_eq!(write(seconds, 28, ""), no(8, 0));

@@ -2,15 +2,15 @@
 
 mod common;
 
-use common::{at, lend, whole, writes, RANDOM};
+use common::{at, date_of, lend, whole, writes, RANDOM};
 use independent::date::{EARLIEST, LATEST, LENGTH};
-use independent::generate::{content_range, frame, instant, numbers, Rng};
+use independent::generate::{content_range, frame, instant, numbers, present_year, Rng};
 use independent::number::{ARGUMENT_OUT_OF_RANGE, BODY_TOO_LARGE, OUTPUT_TOO_SHORT};
 use independent::ranges::{write_content_range, NUMBER_LIMIT};
 use independent::{chunked, date, qvalue, version};
 use quizotepec::{
-    chunked_decode, chunked_encode, content_range_write, date_write, qvalue_write, version_write, Pieces,
-    Range, Version,
+    chunked_decode, chunked_encode, content_range_write, date_read, date_write, qvalue_write, version_write,
+    Pieces, Range, Version, FIRST_PRESENT_YEAR, LAST_PRESENT_YEAR,
 };
 
 /// The longest version has 16 bytes, the longest qvalue 5, the longest Content-Range value 65.
@@ -123,6 +123,23 @@ fn random_instants() {
     for _ in 0..RANDOM {
         let seconds = if rng.once_in(20) { rng.word() as i64 } else { instant(&mut rng) };
         date_agrees(seconds, LENGTH - 1 + rng.below(3));
+    }
+}
+
+/// What is written reads back as the instant, in whatever present year a date is read.
+#[test]
+fn dates_read_back() {
+    let mut rng = Rng::new(31);
+    for _ in 0..RANDOM {
+        let seconds = instant(&mut rng).clamp(EARLIEST, LATEST);
+        let year = present_year(&mut rng);
+        let mut text = [0; LENGTH];
+        assert_eq!(date_write(seconds, &mut text), Ok(LENGTH));
+        let expected = match year {
+            FIRST_PRESENT_YEAR..=LAST_PRESENT_YEAR => Ok(date_of(date::at(seconds).expect("a date"))),
+            _ => Err(at(ARGUMENT_OUT_OF_RANGE, 0)),
+        };
+        assert_eq!(date_read(&text, year), expected, "{seconds} in {year}");
     }
 }
 

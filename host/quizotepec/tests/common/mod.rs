@@ -3,8 +3,8 @@
 
 use independent::chunked::FORBIDDEN_FIELDS;
 use independent::generate::{allowed_names, forbidden_names, Rng};
-use independent::number;
-use quizotepec::{Decoded, Refusal, Refused, Span, Which};
+use independent::{date, number};
+use quizotepec::{Date, Decoded, Refusal, Refused, Span, Which};
 use std::ops::Range;
 
 #[path = "../../src/raw.rs"]
@@ -104,6 +104,34 @@ pub fn refusal(r: independent::Refusal) -> Refusal {
 /// The refusal with a number of documents 01 and 02.
 pub fn at(number: u8, place: usize) -> Refusal {
     refusal(independent::Refusal::new(number, place))
+}
+
+/// Each byte at each place of a text: inserted, put in the place of another, and behind the beginning up to there.
+pub fn changes(text: &str) -> impl Iterator<Item = Vec<u8>> + '_ {
+    let places = (0..=text.len()).flat_map(|place| (0..=255).map(move |byte| (place, byte)));
+    places.flat_map(|(place, byte)| {
+        let (front, rest) = text.as_bytes().split_at(place);
+        let tails = [rest, rest.get(1..).unwrap_or_default(), b""];
+        tails.map(|tail| [front, &[byte], tail].concat())
+    })
+}
+
+/// A field without a meaning is 0: the place of an answer, the values of a refusal.
+pub fn unused(input: &[u8], number: u8, place: usize, values: &[u64]) {
+    let zero = if number == 0 { place == 0 } else { values.iter().all(|value| *value == 0) };
+    assert!(zero, "{input:?}: {number} at {place}, {values:?}");
+}
+
+pub fn date_of(d: date::Date) -> Date {
+    Date {
+        year: d.year.into(),
+        month: d.month.into(),
+        day: d.day.into(),
+        hour: d.hour.into(),
+        minute: d.minute.into(),
+        second: d.second.into(),
+        seconds: d.seconds,
+    }
 }
 
 /// The names that no trailer may hold, in many letter cases, and names like them.
