@@ -85,9 +85,11 @@ static void show_written(const char *what, QzWritten w)
     printf("%s: number %u, %lu bytes\n", what, (unsigned)w.number, (unsigned long)w.length);
 }
 
-static void show_date(const char *text)
+/* A program takes the present year from its clock: gmtime(&now)->tm_year + 1900. */
+static void show_date(const char *text, uint32_t present_year)
 {
-    QzDate d = qz_date_read(bytes(text), strlen(text));
+    QzDate d = qz_date_read(bytes(text), strlen(text), present_year);
+    printf("in %lu, ", (unsigned long)present_year);
     if (d.number != 0) {
         show_refusal(text, d.number, d.place);
         return;
@@ -101,9 +103,14 @@ static void show_dates(void)
 {
     uint8_t out[64];
     QzWritten w;
-    show_date("Sunday, 06-Nov-94 08:49:37 GMT");
-    show_date("Wed, 31 Dec 1969 23:59:59 GMT");
-    show_date("Mon, 06 Nov 1994 08:49:37 GMT");
+    show_date("Sunday, 06-Nov-94 08:49:37 GMT", 2026);
+    show_date("Wed, 31 Dec 1969 23:59:59 GMT", 2026);
+    show_date("Mon, 06 Nov 1994 08:49:37 GMT", 2026);
+    /* 77 is 1977 up to 2026, and from 2027 on 2077, in which that day has another name. */
+    show_date("Saturday, 01-Jan-77 00:00:00 GMT", 2026);
+    show_date("Saturday, 01-Jan-77 00:00:00 GMT", 2027);
+    show_date("Friday, 01-Jan-77 00:00:00 GMT", 2027);
+    show_date("Friday, 01-Jan-77 00:00:00 GMT", 1631);
     w = qz_date_write(951782400, out, sizeof out);
     show_written("instant 951782400", w);
     printf("%.*s\n", (int)w.length, (const char *)out);
