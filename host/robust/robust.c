@@ -20,6 +20,7 @@
 /* The limits that the documents give, and how many refusal numbers there are, 0 included. */
 enum { LINE_LIMIT = 1024, TRAILER_LIMIT = 8192, VALUE_LIMIT = 8192, VERSION_LIMIT = 65535, QVALUE_LIMIT = 1000 };
 enum { LEVEL_LIMIT = 8 };
+enum { FIRST_PRESENT_YEAR = 1632, LAST_PRESENT_YEAR = 9949 };
 enum { NUMBERS = 16 };
 #define SECONDS_CAP 2147483648u
 #define LENGTH_LIMIT (UINT64_MAX / 2)
@@ -48,12 +49,13 @@ typedef struct Block {
     size_t length;
 } Block;
 
-/* What a call may use: two inputs, an output, three numbers. */
+/* What a call may use: two inputs, an output, three numbers, a present year. */
 typedef struct Call {
     Block a;
     Block b;
     Block out;
     uint64_t numbers[3];
+    uint32_t year;
 } Call;
 
 /* What every answer says. */
@@ -159,10 +161,26 @@ static bool is_date(QzDate r)
            (r.seconds - time) % 86400 == 0;
 }
 
+/* A year of two digits, which the longest form alone has, ends in them and is at most 49 before the present one or 50
+ * after it. */
+static bool is_year(uint32_t year, const Call *c)
+{
+    enum {
+        FOUR_DIGITS = 29, /* a form whose year has four digits is not longer */
+        BEHIND = 13       /* bytes of ` 08:49:37 GMT` */
+    };
+    const uint8_t *end = c->a.bytes + c->a.length - BEHIND;
+    return c->a.length <= FOUR_DIGITS ||
+           (year % 100 == (end[-2] - '0') * 10u + (end[-1] - '0') && year + 49 >= c->year && year <= c->year + 50);
+}
+
 static Answer of_QzDate(QzDate r, const Call *c)
 {
     bool none = r.seconds == 0 && (r.year | r.month | r.day | r.hour | r.minute | r.second) == 0;
-    return answer(r.number, r.place, c->a.length, r.number == 0 ? is_date(r) : none);
+    bool outside = c->year < FIRST_PRESENT_YEAR || c->year > LAST_PRESENT_YEAR;
+    bool told = r.number == 0 ? is_date(r) && is_year(r.year, c) : none;
+    /* Such a year is refused before anything is read: the place counts in no input. */
+    return answer(r.number, r.place, outside ? 0 : c->a.length, told && (r.number == QZ_OUT_OF_RANGE) == outside);
 }
 
 static bool is_unused(QzParameter p)
@@ -357,6 +375,10 @@ static const char *const languages[] = {"en", "en-US", "x-pig-latin", "abcdefgh-
 static const char *const etags[] = {"\"xyzzy\"", "W/\"xyzzy\"", "w/\"\"", "\"a\\\"b\xff\t\"", NULL};
 static const char *const dates[] = {"Sun, 06 Nov 1994 08:49:37 GMT",
                                     "Sunday, 06-Nov-94 08:49:37 GMT",
+                                    "Tuesday, 29-Feb-00 00:00:00 GMT",
+                                    "Thursday, 01-Jan-82 00:00:00 GMT", /* of 1682, the last year in 1632 */
+                                    "Saturday, 01-Jan-83 00:00:00 GMT", /* of 1583, the first in 1632 */
+                                    "Friday, 31-Dec-99 23:59:59 GMT",   /* of 9999, the last in 9949 */
                                     "Sun Nov  6 08:49:37 1994",
                                     "Wed, 31 Dec 1969 23:59:59 GMT",
                                     "Tue, 29 Feb 2000 00:00:00 GMT",
@@ -416,7 +438,7 @@ static uint8_t *lent(Block block, const Call *c)
     ROW(qz_etag_read, (A), QzTag, etags, NO(1) | NO(13))                                                             \
     ROW(qz_etag_strong_match, (A, B), QzSame, etags, NO(1) | NO(13))                                                 \
     ROW(qz_etag_weak_match, (A, B), QzSame, etags, NO(1) | NO(13))                                                   \
-    ROW(qz_date_read, (A), QzDate, dates, NO(1) | NO(3) | NO(4) | NO(13))                                            \
+    ROW(qz_date_read, (A, c->year), QzDate, dates, NO(1) | NO(3) | NO(4) | NO(9) | NO(13))                           \
     ROW(qz_date_write, ((int64_t)c->numbers[0], OUT), QzWritten, texts, NO(8) | NO(9))                               \
     ROW(qz_media_read, (A), QzMedia, media_types, MEDIA)                                                             \
     ROW(qz_media_equal, (A, B), QzSame, media_types, MEDIA)                                                          \
@@ -528,6 +550,21 @@ static uint64_t draw_number(void)
         return word() >> below(64);
     default:
         return below(SHORT);
+    }
+}
+
+/* Mostly a year under which dates are read, often the first or the last of them or one beside it; at times any. */
+static uint32_t draw_year(void)
+{
+    switch (below(6)) {
+    case 0:
+        return (uint32_t)draw_number();
+    case 1:
+        return FIRST_PRESENT_YEAR - 1 + (uint32_t)below(3);
+    case 2:
+        return LAST_PRESENT_YEAR - 1 + (uint32_t)below(3);
+    default:
+        return FIRST_PRESENT_YEAR + (uint32_t)below(LAST_PRESENT_YEAR - FIRST_PRESENT_YEAR + 1);
     }
 }
 
@@ -663,6 +700,7 @@ static void draw_call(const Entry *e, Call *c)
     for (i = 0; i < sizeof c->numbers / sizeof c->numbers[0]; i++) {
         c->numbers[i] = draw_number();
     }
+    c->year = draw_year();
 }
 
 /* ---- bodies in pieces */
@@ -968,8 +1006,8 @@ static void show_feeding(void)
 static void show_call(void)
 {
     fprintf(stderr, "seed %" PRIu64 ", round %" PRIu64 ", %s\n", seed, round_now, entries[round_now % COUNT].name);
-    fprintf(stderr, "numbers given: %" PRIu64 ", %" PRIu64 " and %" PRIu64 "\n", call_now.numbers[0],
-            call_now.numbers[1], call_now.numbers[2]);
+    fprintf(stderr, "numbers given: %" PRIu64 ", %" PRIu64 " and %" PRIu64 "; present year %" PRIu32 "\n",
+            call_now.numbers[0], call_now.numbers[1], call_now.numbers[2], call_now.year);
     show("first input", &call_now.a);
     show("second input", &call_now.b);
     fprintf(stderr, "output: %zu bytes\n", call_now.out.length);
