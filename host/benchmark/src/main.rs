@@ -1,8 +1,10 @@
 //! The proved library against the independent implementation and a bare copy. It prints ratios, never bare times.
 
 mod bodies;
+mod dates;
 mod measure;
 mod pieces;
+mod plain_date;
 mod ranges;
 mod seconds;
 mod trailers;
@@ -16,6 +18,8 @@ fn main() {
     trailers::print();
     println!();
     values::print();
+    println!();
+    dates::print();
     println!();
     seconds::print();
     println!();

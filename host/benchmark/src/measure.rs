@@ -1,6 +1,7 @@
 //! Interleaved rounds, and ratios of their times.
 
 use std::fmt;
+use std::hint::black_box;
 use std::time::{Duration, Instant};
 
 /// One round of a contender: it times itself, so that what it prepares does not count.
@@ -10,6 +11,16 @@ pub fn timed<A>(run: impl FnOnce() -> A) -> (Duration, A) {
     let start = Instant::now();
     let answer = run();
     (start.elapsed(), answer)
+}
+
+/// The time of so many readings.
+pub fn readings<A>(count: usize, read: impl Fn() -> A) -> Duration {
+    let read_all = || {
+        for _ in 0..count {
+            black_box(read());
+        }
+    };
+    timed(read_all).0
 }
 
 /// The median of one ratio to a round, and the quartiles, which show how far the rounds differ.

@@ -1,25 +1,14 @@
 //! Byte ranges against a plain reader.
 
-use crate::measure::{timed, times_as_long, Ratio};
+use crate::measure::{readings, times_as_long, Ratio};
 use independent::plain_values::ranges;
 use quizotepec::{ranges_read, Ranges};
 use std::hint::black_box;
-use std::time::Duration;
 
 const ROUNDS: usize = 101;
 /// About how many bytes a round reads.
 const BYTES: usize = 1 << 20;
 const ENTITY_LENGTH: u64 = 10_000;
-
-/// The time of many readings.
-fn round<A>(value: &[u8], read: impl Fn(&[u8], u64) -> A) -> Duration {
-    let read_all = || {
-        for _ in 0..BYTES / value.len() {
-            black_box(read(black_box(value), black_box(ENTITY_LENGTH)));
-        }
-    };
-    timed(read_all).0
-}
 
 fn compare(value: &[u8]) -> Ratio {
     let Ok(Ranges::Satisfiable(set)) = ranges_read(value, ENTITY_LENGTH) else {
@@ -28,8 +17,9 @@ fn compare(value: &[u8]) -> Ratio {
     let table = ranges(value, ENTITY_LENGTH).expect("a set that is read");
     let ours = set.ranges().iter().map(|range| (range.first, range.last));
     assert!(ours.eq(table.left().iter().map(|range| (range.first, range.last))), "both read the same");
-    let mut ours = || round(value, ranges_read);
-    let mut plain = || round(value, ranges);
+    let count = BYTES / value.len();
+    let mut ours = || readings(count, || ranges_read(black_box(value), black_box(ENTITY_LENGTH)));
+    let mut plain = || readings(count, || ranges(black_box(value), black_box(ENTITY_LENGTH)));
     times_as_long(ROUNDS, &mut [&mut ours, &mut plain])[0]
 }
 

@@ -1,30 +1,20 @@
 //! Delta-seconds against a plain reader.
 
-use crate::measure::{timed, times_as_long, Ratio};
+use crate::measure::{readings, times_as_long, Ratio};
 use independent::plain_values::delta;
 use quizotepec::{delta_read, Seconds};
 use std::hint::black_box;
-use std::time::Duration;
 
 const ROUNDS: usize = 101;
 /// About how many digits a round reads.
 const DIGITS: usize = 1 << 20;
 
-/// The time of many readings.
-fn round<A>(value: &[u8], read: impl Fn(&[u8]) -> A) -> Duration {
-    let read_all = || {
-        for _ in 0..DIGITS / value.len() {
-            black_box(read(black_box(value)));
-        }
-    };
-    timed(read_all).0
-}
-
 fn compare(value: &[u8]) -> Ratio {
     let theirs = delta(value).map(|s| Seconds { value: s.value, capped: s.capped });
     assert_eq!(delta_read(value).unwrap(), theirs.unwrap());
-    let mut ours = || round(value, delta_read);
-    let mut plain = || round(value, delta);
+    let count = DIGITS / value.len();
+    let mut ours = || readings(count, || delta_read(black_box(value)));
+    let mut plain = || readings(count, || delta(black_box(value)));
     times_as_long(ROUNDS, &mut [&mut ours, &mut plain])[0]
 }
 

@@ -18,6 +18,16 @@ struct Kind {
     theirs: Read,
 }
 
+const PRESENT_YEAR: u32 = 2026;
+
+fn our_date(value: &[u8]) -> Result<quizotepec::Date, quizotepec::Refusal> {
+    quizotepec::date_read(value, PRESENT_YEAR)
+}
+
+fn their_date(value: &[u8]) -> Result<independent::date::Date, independent::Refusal> {
+    independent::date::read(value, PRESENT_YEAR)
+}
+
 macro_rules! kind {
     ($name:literal, $ours:path, $theirs:path, [$($sample:literal),+ $(,)?]) => {
         Kind {
@@ -51,8 +61,8 @@ const KINDS: &[Kind] = &[
     ),
     kind!(
         "date",
-        quizotepec::date_read,
-        independent::date::read,
+        our_date,
+        their_date,
         [
             b"Sun, 06 Nov 1994 08:49:37 GMT",
             b"Sunday, 06-Nov-94 08:49:37 GMT",
