@@ -3,24 +3,28 @@ use Prim.Native.Nat.{ℕ, suc, _+_, _-_, _*_, _/_, _%_, _≤_, _<_}
 use native.Mathlib.Omega.{arith}
 use mathlib.Core.Path.{_≡_, refl, sym, ap, subst, _∙_}
 use mathlib.Core.Logic.{_↔_, _⊎_, inl, inr}
+use mathlib.Core.Bool.{true, false}
 use mathlib.Core.List.{List, [], _∷_}
 use lib.ListN.{length}
 use Rattle.grammar.specs.Grammar.{Part, Parses}
-use Rattle.grammar.specs.Reading.{Verdict, value, Answers, reads}
+use Rattle.grammar.specs.Refusals.{NO_SUCH_DATE, WRONG_DAY_NAME}
+use Rattle.grammar.specs.Reading.{value-limit, Limit, Breaks, Verdict, value, refused, Answers, faulty, reads}
 use Rattle.grammar.specs.Arguments.{Asked, in-range}
 use Rattle.grammar.specs.helpers.Judge.{header}
 use Rattle.grammar.proofs.Demands.{answered-exactly, asked-exactly, one-parse}
-use Rattle.calendar.specs.Gregorian.{first-year, last-year}
+use Rattle.octets.specs.Numbers.{number}
+use Rattle.calendar.specs.Gregorian.{first-year, last-year, weekday, day-number, exists?}
 use Rattle.calendar.proofs.Demands as Calendar
 use Rattle.date.specs.declared.Date.{Date}
 use Rattle.date.specs.Years.{PresentYear, present-year?, Chosen, full-year, base-year}
-use Rattle.date.specs.Grammar.{Name, month, months, date, rfc1123-date, rfc850-date, asctime-date, said, value-of, rules, base-rules}
+use Rattle.date.specs.Grammar.{Name, month, short-year, months, date, rfc1123-date, rfc850-date, asctime-date, Said, said, Among}
+use Rattle.date.specs.Grammar.{value-of, rules, base-rules}
 use Rattle.date.specs.Names.{month-names, first-name}
 use Rattle.date.specs.Reading.{reading}
 use Rattle.date.proofs.Months.{month-first, first-month}
-use Rattle.date.proofs.Judged.{read-is}
+use Rattle.date.proofs.Judged.{fault-nowhere, fault-wrong, fault-none, read-is}
 use Rattle.date.proofs.Years.{is-present, not-present, reading-in, chosen-year, chosen-only, ahead-past, as-2019}
-use Rattle.date.proofs.Forms.{one-way, one-of-three, any-of-three, Agree, agree-always, agree-full, same-answer}
+use Rattle.date.proofs.Forms.{one-way, one-of-three, any-of-three, Agree, said-same, agree-always, agree-full, same-answer}
 use Rattle.date.proofs.Forms.{rfc1123-full, asctime-full}
 use Rattle.date.proofs.ShortYears.{says-short-year}
 
@@ -58,7 +62,7 @@ all-years y = (
       (omega (arith, first .0), omega (arith, last .1)),
 )
 
--- "a two-digit date that appears more than 50 years ahead is past": in the century of Y it is, and so the year before Y is meant.
+-- "a two-digit date that appears more than 50 years ahead is past": where it does in the century of Y, a year before Y is meant.
 pub ahead-is-past : (y n : ℕ) → PresentYear y → n < 100 → y + 50 < y / 100 * 100 + n → full-year y n < y
 ahead-is-past y n p h = ahead-past y n (omega (arith, p .0)) h
 
@@ -75,14 +79,55 @@ module _ (y : ℕ) (s : List ℕ) (d : Date) (e : reading y s ≡ value d) where
           → PresentYear y × (x ≡ value-of (said (full-year y) ps .fields))
       asked x (in-range i a) = (i, parts x a)
 
-  -- Of a date in the form of RFC 850, the year is the chosen one. Its digits are the year that is said where two digits mean themselves.
-  pub chosen-read : (ps : List (Part Name)) → Parses rfc850-date 0 s ps → Chosen y (said (λ n. n) ps .fields .year) (d .fields .year)
+  -- Of a date in the form of RFC 850, the year is the chosen one for the digits t that stand there.
+  pub chosen-read : (ps : List (Part Name)) → Parses rfc850-date 0 s ps
+      → (t : List ℕ) × Among short-year t ps × Chosen y (number t) (d .fields .year)
   chosen-read ps p =
       let r = read-parts ps (any-of-three 0 s ps (inr (inl p))) in
       let x = says-short-year s ps p in
-      let year : d .fields .year ≡ full-year y (x .0) = ap (λ (z : Date). z .fields .year) (r .1) ∙ x .2 (full-year y) in
-      subst (λ (n : ℕ). Chosen y n (d .fields .year)) (sym (x .2 (λ n. n)))
-      (subst (Chosen y (x .0)) (sym year) (chosen-year y (x .0) (omega (arith, r .0 .0)) (x .1)))
+      let year : d .fields .year ≡ full-year y (number (x .0)) = ap (λ (z : Date). z .fields .year) (r .1) ∙ x .3 (full-year y) in
+      (x .0, x .1, subst (Chosen y (number (x .0))) (sym year) (chosen-year y (number (x .0)) (omega (arith, r .0 .0)) (x .2)))
+
+-- A well-formed date is judged by what its parts say.
+module _ (x : Said) where
+  abbrev day-of-week : ℕ
+  day-of-week = weekday (day-number (x .fields .year) (x .fields .month) (x .fields .day))
+
+  -- 3 where there is no such date or time; 4 where there is and the named day is another; otherwise the date
+  abbrev pub JudgedBy : Verdict Date → Type 0
+  JudgedBy v =
+      (exists? (x .fields) ≡ false → v ≡ refused NO_SUCH_DATE 0)
+      × (exists? (x .fields) ≡ true → (x .named ≡ day-of-week → ⊥) → v ≡ refused WRONG_DAY_NAME 0)
+      × (exists? (x .fields) ≡ true → x .named ≡ day-of-week → v ≡ value (value-of (x .fields)))
+
+module _ (y : ℕ) (py : PresentYear y) (s : List ℕ) (short : length s ≤ value-limit) where
+  unbroken : (k : ℕ) (l : Limit) → k < length s → Breaks (rules y) s l k → ⊥
+  unbroken k l h b = let e = b .1 .2 in let z : _≡_ {A = ℕ} 0 1 = cc in absurd (omega arith)
+
+  asked-for : (v : Verdict Date) → Answers (rules y) s v → reading y s ≡ v
+  asked-for v a = reading-in y py s ∙ answered-exactly (rules y) tt tt one-way s v .1 a
+
+  pub well-formed : (ps : List (Part Name)) → Parses date 0 s ps → JudgedBy (said (full-year y) ps) (reading y s)
+  well-formed ps p =
+      let x = said (full-year y) ps in (
+        λ e. asked-for (refused NO_SUCH_DATE 0) (faulty short p unbroken (fault-nowhere (x .named) (x .fields) e)),
+        λ e n. asked-for (refused WRONG_DAY_NAME 0) (faulty short p unbroken (fault-wrong (x .named) (x .fields) e n)),
+        λ e n. asked-for (value (value-of (x .fields))) (reads short p unbroken (fault-none (x .named) (x .fields) e n)),
+      )
+
+  -- "Day names are checked against the chosen year.": in the form of RFC 850, with digits t, it is judged as in the chosen year.
+  pub judged-by-chosen : (ps : List (Part Name)) → Parses rfc850-date 0 s ps
+      → (t : List ℕ) × Among short-year t ps × ((year : ℕ) → Chosen y (number t) year → JudgedBy (said (λ n. year) ps) (reading y s))
+  judged-by-chosen ps p =
+      let x = says-short-year s ps p in
+      let n = number (x .0) in (
+        x .0,
+        x .1,
+        λ year c. let same = chosen-only y n (omega (arith, py .0)) (x .2) year c in
+            subst (λ (z : Said). JudgedBy z (reading y s))
+            (said-same (full-year y) (λ (m : ℕ). year) ps (x .4 (full-year y) (λ (m : ℕ). year) (sym same)))
+            (well-formed ps (any-of-three 0 s ps (inr (inl p)))),
+      )
 
 -- "With 2019 the old results return.": whatever the bytes, the answer is that of document 01's rules.
 pub with-2019 : (s : List ℕ) → reading 2019 s ≡ header base-rules s

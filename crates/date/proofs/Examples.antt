@@ -14,7 +14,7 @@ use Rattle.date.specs.Years.{full-year}
 use Rattle.date.specs.Grammar.{fault-of}
 use Rattle.date.specs.Reading.{reading}
 
--- both ends of the years from Y-49 to Y+50
+-- both ends of the window from Y-49 to Y+50
 years :
     (full-year 2026 76 ≡ 2076) × (full-year 2026 77 ≡ 1977)
     × (full-year 1994 44 ≡ 2044) × (full-year 1994 45 ≡ 1945)
@@ -32,6 +32,14 @@ outside s = (refl, refl, refl, refl)
 -- midnight of a day, and its seconds
 abbrev midnight : (year month day : ℕ) → ℤ → Verdict Date
 midnight y m d z = value (record { fields = record { year = y; month = m; day = d; hour = 0; minute = 0; second = 0 }; seconds = z })
+
+-- the same of whole texts
+texts :
+    (reading 2026 (bytes "Wednesday, 01-Jan-76 00:00:00 GMT") ≡ midnight 2076 1 1 (pos 3345062400))
+    × (reading 1994 (bytes "Friday, 01-Jan-44 00:00:00 GMT") ≡ midnight 2044 1 1 (pos 2335219200))
+    × (reading 1994 (bytes "Monday, 01-Jan-45 00:00:00 GMT") ≡ midnight 1945 1 1 (negsuc 788918399))
+unfolding digit? leap? days-of-years date? time? seconds-of full-year fault-of
+texts = (refl, refl, refl)
 
 -- "Day names are checked against the chosen year.": 1 January was a Saturday in 1977 and is a Friday in 2077
 day-names :

@@ -113,7 +113,8 @@ any-of-three i s ps (inr (inr m)) = days-within (λ l p. asctime) forms (λ l p 
 
 -- ## What two digits mean, where there are none
 
-abbrev full? : Name → Bool
+-- every name but that of two digits of a year
+abbrev pub full? : Name → Bool
 full? (weekday k) = true
 full? (month k) = true
 full? day = true

@@ -83,6 +83,21 @@ module _ (f : Fields) where
   pub judged-well : (k : ℕ) → exists? f ≡ true → k ≡ Gregorian.weekday (day-number (f .year) (f .month) (f .day)) → judged k f ≡ value (value-of f)
   judged-well k e w = sym (judged-as k true true e (eq-eqb k (Gregorian.weekday (day-number (f .year) (f .month) (f .day))) w))
 
+-- the faults, by what the calendar says
+module _ (k : ℕ) (f : Fields) where
+  pub fault-nowhere : exists? f ≡ false → fault-of k f ≡ some no-such-date
+  unfolding fault-of
+  fault-nowhere e = rw e
+
+  module _ (e : exists? f ≡ true) where
+    pub fault-wrong : (k ≡ Gregorian.weekday (day-number (f .year) (f .month) (f .day)) → ⊥) → fault-of k f ≡ some wrong-day
+    unfolding fault-of
+    fault-wrong n = rw (e, ne-eqb k (Gregorian.weekday (day-number (f .year) (f .month) (f .day))) n)
+
+    pub fault-none : k ≡ Gregorian.weekday (day-number (f .year) (f .month) (f .day)) → fault-of k f ≡ none
+    unfolding fault-of
+    fault-none n = rw (e, eq-eqb k (Gregorian.weekday (day-number (f .year) (f .month) (f .day))) n)
+
 -- a date without a fault exists
 pub no-fault : (k : ℕ) (f : Fields) → fault-of k f ≡ none → exists? f ≡ true
 unfolding fault-of

@@ -4,21 +4,26 @@ use native.Mathlib.Omega.{arith}
 use borrow.Author.Tests.{leb-true}
 use mathlib.Core.Path.{_≡_, refl, sym, ap, subst, _∙_}
 use mathlib.Core.Logic.{inl, inr}
+use mathlib.Core.Bool.{true≢false}
 use mathlib.Core.List.{List, [], _∷_, _++_}
 use lib.Dec.{T, leb, ltb}
 use Rattle.grammar.specs.Grammar.{Part, Grammar, Parses, empty, byte, _⨾_, part, lit, past, bytes?, T-right}
 use Rattle.grammar.specs.Text.{bytes}
 use Rattle.grammar.proofs.Derivative.{T-true}
+use Rattle.grammar.proofs.Labels.{labels?, all-labelled}
 use Rattle.grammar.proofs.Plain.{plain-empty, plain-byte, plain-seq, plain-part}
 use Rattle.octets.specs.Bytes.{digit?}
 use Rattle.octets.specs.Classes.{DIGIT}
 use Rattle.octets.specs.Numbers.{number}
-use Rattle.date.specs.Grammar.{Name, weekday, day, short-year, two, time, gmt, months, rfc850, on-day, rfc850-date, said}
+use Rattle.date.specs.Grammar.{Name, weekday, day, short-year, two, time, gmt, months, rfc850, on-day, rfc850-date, said, Among}
 use Rattle.date.proofs.Months.{month-first}
+use Rattle.date.proofs.Forms.{full?, Agree, agree-full}
 
--- two digits n are said, whatever they mean
+-- among the parts are two digits t, they are the year that is said, whatever they mean, and no other two digits stand there
 abbrev pub SaysShort : List (Part Name) → Type 0
-SaysShort ps = (n : ℕ) × (n < 100) × ((years : ℕ → ℕ) → said years ps .fields .year ≡ years n)
+SaysShort ps =
+    (t : List ℕ) × Among short-year t ps × (number t < 100) × ((years : ℕ → ℕ) → said years ps .fields .year ≡ years (number t))
+    × ((f g : ℕ → ℕ) → f (number t) ≡ g (number t) → Agree f g ps)
 
 -- every text of g says so
 record Says (g : Grammar Name) : Type 0 where
@@ -38,13 +43,14 @@ says-lit {g} w p f = record { of = go w p }
 says-day : {g : Grammar Name} (k : ℕ) → Says g → Says (part (weekday k) empty ⨾ g)
 says-day k f = record {
   of = λ i s ps m. let named = plain-part (weekday k) empty plain-empty i (m .0) (m .2) (m .6) in
-      subst SaysShort (sym (m .5 ∙ ap (λ (qs : List (Part Name)). qs ++ m .3) named)) (f .of (past i (m .0)) (m .1) (m .3) (m .7));
+      subst SaysShort (sym (m .5 ∙ ap (λ (qs : List (Part Name)). qs ++ m .3) named))
+      (let x = f .of (past i (m .0)) (m .1) (m .3) (m .7) in (x .0, inr (x .1), x .2, x .3, λ f h e. (λ q. absurd (true≢false q), x .4 f h e)));
 }
 
 says-month : {g : Grammar Name} → Says g → Says (months ⨾ g)
 says-month f = record {
   of = λ i s ps m. subst SaysShort (sym (m .5 ∙ ap (λ (qs : List (Part Name)). qs ++ m .3) (month-first i (m .0) (m .2) (m .6) .3)))
-      (f .of (past i (m .0)) (m .1) (m .3) (m .7));
+      (let x = f .of (past i (m .0)) (m .1) (m .3) (m .7) in (x .0, inr (x .1), x .2, x .3, λ f h e. (λ q. absurd (true≢false q), x .4 f h e)));
 }
 
 abbrev two-digits : Grammar Name
@@ -58,7 +64,8 @@ number-part l g i s ps m =
 
 says-number : {g : Grammar Name} → Says g → Says (two day g)
 says-number {g} f = record {
-  of = λ i s ps m. subst SaysShort (sym (number-part day g i s ps m)) (f .of (past i (m .0)) (m .1) (m .3) (m .7));
+  of = λ i s ps m. subst SaysShort (sym (number-part day g i s ps m))
+      (let x = f .of (past i (m .0)) (m .1) (m .3) (m .7) in (x .0, inr (x .1), x .2, x .3, λ f h e. (λ q. absurd (true≢false q), x .4 f h e)));
 }
 
 -- ## The two digits
@@ -73,10 +80,15 @@ two-below i t ps m =
     let b = m .7 in
     rw (m .4, a .1, b .1) (omega (arith, digit-below (a .0) (a .2), digit-below (b .0) (b .2)))
 
-says-short : (g : Grammar Name) → Says (two short-year g)
-says-short g = record {
-  of = λ i s ps m. subst SaysShort (sym (number-part short-year g i s ps m))
-      (number (m .0), two-below i (m .0) (m .6 .0) (m .6 .2), λ years. refl);
+says-short : (g : Grammar Name) → T (labels? full? g) → Says (two short-year g)
+says-short g none = record {
+  of = λ i s ps m. subst SaysShort (sym (number-part short-year g i s ps m)) (
+    m .0,
+    inl (refl, refl),
+    two-below i (m .0) (m .6 .0) (m .6 .2),
+    λ years. refl,
+    λ f h e. (λ q. e, agree-full f h (m .3) (all-labelled full? g none (past i (m .0)) (m .1) (m .3) (m .7))),
+  );
 }
 
 -- ## The form
@@ -84,7 +96,7 @@ says-short g = record {
 says-rfc850 : Says rfc850
 says-rfc850 =
     says-lit (bytes ", ") tt (says-number (says-lit (bytes "-") tt
-    (says-month (says-lit (bytes "-") tt (says-short (lit (bytes " ") tt (time gmt)))))))
+    (says-month (says-lit (bytes "-") tt (says-short (lit (bytes " ") tt (time gmt)) tt)))))
 
 on : (k : ℕ) (w : List ℕ) (p : T (bytes? w)) (l : List ℕ) (q : T (bytes? l)) → Says (on-day k w p (lit l q rfc850))
 on k w p l q = says-lit w p (says-day k (says-lit l q says-rfc850))

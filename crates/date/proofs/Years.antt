@@ -9,28 +9,28 @@ use lib.Dec.{leb, ltb}
 use Rattle.grammar.specs.Refusals.{OUT_OF_RANGE}
 use Rattle.grammar.specs.Reading.{refused}
 use Rattle.grammar.specs.helpers.Judge.{header}
-use Rattle.date.specs.Years.{first-present, last-present, PresentYear, present-year?, Chosen, full-year, base-year}
+use Rattle.date.specs.Years.{first-present-year, last-present-year, PresentYear, present-year?, Chosen, full-year, base-year}
 use Rattle.date.specs.Grammar.{rules}
 use Rattle.date.specs.Reading.{reading}
 
 -- ## The range of the present year
 
 pub is-present : (y : ℕ) → present-year? y ≡ true → PresentYear y
-is-present y e = go (leb first-present y) refl e
+is-present y e = go (leb first-present-year y) refl e
   where
-    go : (t : Bool) → leb first-present y ≡ t → t && leb y last-present ≡ true → PresentYear y
-    go true f e = (leb-true first-present y f, leb-true y last-present e)
+    go : (t : Bool) → leb first-present-year y ≡ t → t && leb y last-present-year ≡ true → PresentYear y
+    go true f e = (leb-true first-present-year y f, leb-true y last-present-year e)
     go false f e = absurd (true≢false (sym e))
 
 pub present-is : (y : ℕ) → PresentYear y → present-year? y ≡ true
-present-is y p = rw (le-leb first-present y (p .0), le-leb y last-present (p .1))
+present-is y p = rw (le-leb first-present-year y (p .0), le-leb y last-present-year (p .1))
 
 pub not-present : (y : ℕ) → present-year? y ≡ false → PresentYear y → ⊥
-not-present y e p = go (leb first-present y) refl e
+not-present y e p = go (leb first-present-year y) refl e
   where
-    go : (t : Bool) → leb first-present y ≡ t → t && leb y last-present ≡ false → ⊥
-    go true f e = omega (arith, leb-false y last-present e, p .1)
-    go false f e = omega (arith, leb-false first-present y f, p .0)
+    go : (t : Bool) → leb first-present-year y ≡ t → t && leb y last-present-year ≡ false → ⊥
+    go true f e = omega (arith, leb-false y last-present-year e, p .1)
+    go false f e = omega (arith, leb-false first-present-year y f, p .0)
 
 -- ## The answer within it and outside of it
 

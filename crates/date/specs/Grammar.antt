@@ -1,5 +1,7 @@
 -- HTTP-date (RFC 2616 3.3.1): the forms of RFC 1123, RFC 850 and asctime. "Dates are case-sensitive, without extra blanks."
 use Prim.Native.Nat.{ℕ}
+use mathlib.Core.Path.{_≡_}
+use mathlib.Core.Logic.{_⊎_}
 use mathlib.Core.Bool.{cond}
 use mathlib.Core.List.{List, [], _∷_}
 use mathlib.Core.Option.{Option, none, some}
@@ -148,6 +150,11 @@ module _ (years : ℕ → ℕ) where
   abbrev pub said : List (Part Name) → Said
   said [] = saying 0 0 0 0 0 0 0
   said (p ∷ ps) = noted (p .label) (p .text) (said ps)
+
+-- among the parts is one of that name, its bytes being t
+abbrev pub Among : Name → (t : List ℕ) → List (Part Name) → Type 0
+Among l t [] = ⊥
+Among l t (p ∷ ps) = ((p .label ≡ l) × (p .text ≡ t)) ⊎ Among l t ps
 
 -- no such date or time, then a day name that disagrees with the date
 unfoldable pub fault-of : ℕ → Fields → Option Fault

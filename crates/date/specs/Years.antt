@@ -6,17 +6,17 @@ use mathlib.Core.Bool.{Bool, cond, _&&_}
 use lib.Dec.{leb, ltb}
 
 -- "Y is 1632 to 9949": Y is the present year
-abbrev pub first-present : ℕ
-first-present = 1632
+abbrev pub first-present-year : ℕ
+first-present-year = 1632
 
-abbrev pub last-present : ℕ
-last-present = 9949
+abbrev pub last-present-year : ℕ
+last-present-year = 9949
 
 abbrev pub PresentYear : ℕ → Type 0
-PresentYear y = (first-present ≤ y) × (y ≤ last-present)
+PresentYear y = (first-present-year ≤ y) × (y ≤ last-present-year)
 
 abbrev pub present-year? : ℕ → Bool
-present-year? y = leb first-present y && leb y last-present
+present-year? y = leb first-present-year y && leb y last-present-year
 
 -- "the year from Y-49 to Y+50 with those digits"
 pub record Chosen (present digits year : ℕ) : Type 0 where
@@ -24,7 +24,7 @@ pub record Chosen (present digits year : ℕ) : Type 0 where
   pub latest : year ≤ present + 50
   pub ends : year % 100 ≡ digits
 
--- that year: in the century in which the hundred years begin, or in the next where it would stand before them
+-- that year: in the century in which this window of a hundred years begins, or in the next where it would stand before the window
 unfoldable pub full-year : (present digits : ℕ) → ℕ
 full-year y n =
     let first = y - 49 in

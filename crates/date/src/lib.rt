@@ -1,4 +1,4 @@
-// HTTP dates: RFC 2616 3.3.1.
+// HTTP dates: RFC 2616 3.3.1, and 19.3 for years of two digits.
 ghost use mathlib.Core.Path.{_≡_};
 ghost use Prim.Native.Nat.{_+_, _-_, _≤_, _<_};
 ghost use lib.ListN.{length, drop};
@@ -51,16 +51,16 @@ pub const DAYS: [u8; 21] = *b"MonTueWedThuFriSatSun";
 
 pub const MONTHS: [u8; 36] = *b"JanFebMarAprMayJunJulAugSepOctNovDec";
 
-// The present years under which dates are read: the hundred years around each are years of a date.
+// The present years under which dates are read: the years from Y-49 to Y+50 are then years of a date, 1583 to 9999.
 pub const FIRST_PRESENT_YEAR: u32 = 1632;
 
 pub const LAST_PRESENT_YEAR: u32 = 9949;
 
 // Reads a date of any of the three forms. The present year says which century two digits of a year are in.
-pub fn read(s: &[u8], present: u32) -> Reading
-    ensures { λ r. ⌜ verdict r ≡ reading present (now (s .entry)) ⌝ }
+pub fn read(s: &[u8], present_year: u32) -> Reading
+    ensures { λ r. ⌜ verdict r ≡ reading «present_year» (now (s .entry)) ⌝ }
 {
-    if !is_present_year(present) {
+    if !is_present_year(present_year) {
         return Reading::Refused(Refusal {
             number: OUT_OF_RANGE,
             place: 0,
@@ -79,7 +79,7 @@ pub fn read(s: &[u8], present: u32) -> Reading
             place: longest_at(&DAYS, s, 0),
         });
     }
-    read_form(s, number - 1, present)
+    read_form(s, number - 1, present_year)
 }
 
 fn is_present_year(year: u32) -> bool
@@ -92,29 +92,29 @@ fn is_present_year(year: u32) -> bool
 }
 
 // Behind the short name of a day.
-fn read_form(s: &[u8], day: usize, present: u32) -> Reading
-    requires { ⌜ AfterDay present (now s) day ⌝ }
-    ensures { λ r. ⌜ verdict r ≡ header (rules present) (now (s .entry)) ⌝ }
+fn read_form(s: &[u8], day: usize, present_year: u32) -> Reading
+    requires { ⌜ AfterDay «present_year» (now s) day ⌝ }
+    ensures { λ r. ⌜ verdict r ≡ header (rules «present_year») (now (s .entry)) ⌝ }
 {
     if byte_is(s, 3, b',') {
-        return read_rfc1123(s, day, present);
+        return read_rfc1123(s, day, present_year);
     }
     if byte_is(s, 3, b' ') {
-        return read_asctime(s, day, present);
+        return read_asctime(s, day, present_year);
     }
     match day {
-        1 => read_rfc850(s, day, b"sday, 00-", present),
-        2 => read_rfc850(s, day, b"nesday, 00-", present),
-        3 => read_rfc850(s, day, b"rsday, 00-", present),
-        5 => read_rfc850(s, day, b"urday, 00-", present),
-        _ => read_rfc850(s, day, b"day, 00-", present),
+        1 => read_rfc850(s, day, b"sday, 00-", present_year),
+        2 => read_rfc850(s, day, b"nesday, 00-", present_year),
+        3 => read_rfc850(s, day, b"rsday, 00-", present_year),
+        5 => read_rfc850(s, day, b"urday, 00-", present_year),
+        _ => read_rfc850(s, day, b"day, 00-", present_year),
     }
 }
 
 // `, 06 Nov 1994 08:49:37 GMT`
-fn read_rfc1123(s: &[u8], day: usize, present: u32) -> Reading
-    requires { ⌜ Goes present rfc1123 (now s) day ⌝ }
-    ensures { λ r. ⌜ verdict r ≡ header (rules present) (now (s .entry)) ⌝ }
+fn read_rfc1123(s: &[u8], day: usize, present_year: u32) -> Reading
+    requires { ⌜ Goes «present_year» rfc1123 (now s) day ⌝ }
+    ensures { λ r. ⌜ verdict r ≡ header (rules «present_year») (now (s .entry)) ⌝ }
 {
     let fits = fitting_at(b", 00 ", s, 3);
     if fits < 5 {
@@ -130,14 +130,14 @@ fn read_rfc1123(s: &[u8], day: usize, present: u32) -> Reading
         day: 5,
         time: 17,
     };
-    read_tail(s, day, b" 0000 00:00:00 GMT", places, present)
+    read_tail(s, day, b" 0000 00:00:00 GMT", places, present_year)
 }
 
 // `day, 06-Nov-94 08:49:37 GMT`: the head is all before the month.
-fn read_rfc850(s: &[u8], day: usize, head: &[u8], present: u32) -> Reading
-    requires { ⌜ AtRfc850 present (now s) day ⌝ }
+fn read_rfc850(s: &[u8], day: usize, head: &[u8], present_year: u32) -> Reading
+    requires { ⌜ AtRfc850 «present_year» (now s) day ⌝ }
     requires { ⌜ now head ≡ rfc850-head day ⌝ }
-    ensures { λ r. ⌜ verdict r ≡ header (rules present) (now (s .entry)) ⌝ }
+    ensures { λ r. ⌜ verdict r ≡ header (rules «present_year») (now (s .entry)) ⌝ }
 {
     let fits = fitting_at(head, s, 3);
     if fits < head.len() {
@@ -154,13 +154,13 @@ fn read_rfc850(s: &[u8], day: usize, head: &[u8], present: u32) -> Reading
         day: at - 3,
         time: at + 7,
     };
-    read_tail(s, day, b"-00 00:00:00 GMT", places, present)
+    read_tail(s, day, b"-00 00:00:00 GMT", places, present_year)
 }
 
 // ` Nov  6 08:49:37 1994`
-fn read_asctime(s: &[u8], day: usize, present: u32) -> Reading
-    requires { ⌜ Goes present asctime (now s) day ⌝ }
-    ensures { λ r. ⌜ verdict r ≡ header (rules present) (now (s .entry)) ⌝ }
+fn read_asctime(s: &[u8], day: usize, present_year: u32) -> Reading
+    requires { ⌜ Goes «present_year» asctime (now s) day ⌝ }
+    ensures { λ r. ⌜ verdict r ≡ header (rules «present_year») (now (s .entry)) ⌝ }
 {
     let fits = fitting_at(b" ", s, 3);
     if fits < 1 {
@@ -177,15 +177,15 @@ fn read_asctime(s: &[u8], day: usize, present: u32) -> Reading
         time: 11,
     };
     if byte_is(s, 8, b' ') {
-        return read_tail(s, day, b"  0 00:00:00 0000", places, present);
+        return read_tail(s, day, b"  0 00:00:00 0000", places, present_year);
     }
-    read_tail(s, day, b" 00 00:00:00 0000", places, present)
+    read_tail(s, day, b" 00 00:00:00 0000", places, present_year)
 }
 
 // The month, what follows it, and the end. A blank before the day counts as 0.
-fn read_tail(s: &[u8], day: usize, tail: &[u8], places: Places, present: u32) -> Reading
-    requires { ⌜ Ending present (now s) day (now tail) places ⌝ }
-    ensures { λ r. ⌜ verdict r ≡ header (rules present) (now (s .entry)) ⌝ }
+fn read_tail(s: &[u8], day: usize, tail: &[u8], places: Places, present_year: u32) -> Reading
+    requires { ⌜ Ending «present_year» (now s) day (now tail) places ⌝ }
+    ensures { λ r. ⌜ verdict r ≡ header (rules «present_year») (now (s .entry)) ⌝ }
 {
     match month_then(tail, s, places.month) {
         Tail::Stops(place) => Reading::Refused(Refusal {
@@ -195,7 +195,7 @@ fn read_tail(s: &[u8], day: usize, tail: &[u8], places: Places, present: u32) ->
         Tail::Month(month) => judge(
             day,
             Fields {
-                year: year_at(s, places.year, places.short, present),
+                year: year_at(s, places.year, places.short, present_year),
                 month,
                 day: two_digits(s, places.day),
                 hour: two_digits(s, places.time),
@@ -345,12 +345,12 @@ fn four_digits(s: &[u8], at: usize) -> u32
     two_digits(s, at) * 100 + two_digits(s, at + 2)
 }
 
-fn year_at(s: &[u8], at: usize, short: bool, present: u32) -> u32
-    requires { ⌜ PresentYear present × (at + 4 ≤ length (now s)) ⌝ }
-    ensures { λ r. ⌜ r ≡ year-from present (now (s .entry)) at short ⌝ }
+fn year_at(s: &[u8], at: usize, short: bool, present_year: u32) -> u32
+    requires { ⌜ PresentYear «present_year» × (at + 4 ≤ length (now s)) ⌝ }
+    ensures { λ r. ⌜ r ≡ year-from «present_year» (now (s .entry)) at short ⌝ }
 {
     if short {
-        full_year(present, two_digits(s, at))
+        full_year(present_year, two_digits(s, at))
     } else {
         four_digits(s, at)
     }
@@ -363,12 +363,12 @@ fn digit_value(b: u8) -> u32
     if b < b'0' { 0 } else { (b - b'0') as u32 }
 }
 
-// "the year from Y-49 to Y+50 with those digits": in the century in which these years begin, or in the next.
-fn full_year(present: u32, digits: u32) -> u32
-    requires { ⌜ PresentYear present × (digits < 3000) ⌝ }
-    ensures { λ r. ⌜ r ≡ full-year present digits ⌝ }
+// "the year from Y-49 to Y+50 with those digits": in the century in which that window begins, or in the next.
+fn full_year(present_year: u32, digits: u32) -> u32
+    requires { ⌜ PresentYear «present_year» × (digits < 3000) ⌝ }
+    ensures { λ r. ⌜ r ≡ full-year «present_year» digits ⌝ }
 {
-    let first = present - 49;
+    let first = present_year - 49;
     let year = first / 100 * 100 + digits;
     if year < first { year + 100 } else { year }
 }

@@ -9,13 +9,13 @@ use Rattle.date.proofs.full_year.Tie as tie
 returns : tie.Need-returns
 unfolding full-year
 returns c =
-    let first = c .before .args .present - 49 in
+    let first = c .before .args .present-year - 49 in
     rw (lt-ltb (first / 100 * 100 + c .before .args .digits) first (c .if1 .taken))
 
 returns-2 : tie.Need-returns-2
 unfolding full-year
 returns-2 c =
-    let first = c .before .args .present - 49 in
+    let first = c .before .args .present-year - 49 in
     rw (le-ltb (first / 100 * 100 + c .before .args .digits) first (c .if1 .left))
 
 pub full-year-spec : {M : Type 1} → statement M

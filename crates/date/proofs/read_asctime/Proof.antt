@@ -8,20 +8,20 @@ use Rattle.date.proofs.read_asctime.Tie as tie
 returns : tie.Need-returns
 returns c =
     let z = c .before .before .before .before in
-    sym (asctime-stop (z .args .present) (z .args .s .now) (z .args .day) (z .pre) _ (c .before .fitting-at .ensures) (c .if1 .taken))
+    sym (asctime-stop (z .args .present-year) (z .args .s .now) (z .args .day) (z .pre) _ (c .before .fitting-at .ensures) (c .if1 .taken))
 
 read-tail-requires : tie.Need-read-tail-requires
 read-tail-requires c κs =
     let i = c .before .before .before in
     let z = i .before .before .before .before in
-    asctime-one (z .args .present) (z .args .s .now) (z .args .day) (z .pre) _ (i .before .fitting-at .ensures) (i .if1 .left)
+    asctime-one (z .args .present-year) (z .args .s .now) (z .args .day) (z .pre) _ (i .before .fitting-at .ensures) (i .if1 .left)
     (sym (c .before .before .byte-is .ensures) ∙ c .before .if2 .taken)
 
 read-tail-requires-2 : tie.Need-read-tail-requires-2
 read-tail-requires-2 c κs =
     let i = c .before .before .before in
     let z = i .before .before .before .before in
-    asctime-two (z .args .present) (z .args .s .now) (z .args .day) (z .pre) _ (i .before .fitting-at .ensures) (i .if1 .left)
+    asctime-two (z .args .present-year) (z .args .s .now) (z .args .day) (z .pre) _ (i .before .fitting-at .ensures) (i .if1 .left)
     (sym (c .before .before .byte-is .ensures) ∙ c .before .if2 .left)
 
 pub read-asctime-spec : {M : Type 1} → statement M

@@ -9,22 +9,22 @@ use Rattle.date.proofs.read_form.Tie as tie
 read-rfc1123-requires : tie.Need-read-rfc1123-requires
 read-rfc1123-requires c κs =
     let z = c .before .before .before in
-    goes-rfc1123 (z .args .present) (z .args .s .now) (z .args .day) (z .pre) (sym (c .before .byte-is .ensures) ∙ c .if1 .taken)
+    goes-rfc1123 (z .args .present-year) (z .args .s .now) (z .args .day) (z .pre) (sym (c .before .byte-is .ensures) ∙ c .if1 .taken)
 
 read-asctime-requires : tie.Need-read-asctime-requires
 read-asctime-requires c κs =
     let z = c .before .before .before .before .before in
-    goes-asctime (z .args .present) (z .args .s .now) (z .args .day) (z .pre) (sym (c .before .byte-is2 .ensures) ∙ c .if2 .taken)
+    goes-asctime (z .args .present-year) (z .args .s .now) (z .args .day) (z .pre) (sym (c .before .byte-is2 .ensures) ∙ c .if2 .taken)
 
 -- neither a comma nor a blank stands behind the short name
 abbrev entry : tie.Else2 → tie.Start
 entry c = c .before .before .before .before .before
 
-at-long : (c : tie.Else2) → AtRfc850 (entry c .args .present) (entry c .args .s .now) (entry c .args .day)
+at-long : (c : tie.Else2) → AtRfc850 (entry c .args .present-year) (entry c .args .s .now) (entry c .args .day)
 at-long c =
     let z = entry c in
     let i = c .before .before in
-    goes-long (z .args .present) (z .args .s .now) (z .args .day) (z .pre) (sym (i .before .byte-is .ensures) ∙ i .if1 .left)
+    goes-long (z .args .present-year) (z .args .s .now) (z .args .day) (z .pre) (sym (i .before .byte-is .ensures) ∙ i .if1 .left)
     (sym (c .before .byte-is2 .ensures) ∙ c .if2 .left)
 
 other-head : tie.Need-read-rfc850-requires-5

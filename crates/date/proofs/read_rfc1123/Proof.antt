@@ -8,12 +8,12 @@ use Rattle.date.proofs.read_rfc1123.Tie as tie
 returns : tie.Need-returns
 returns c =
     let z = c .before .before .before .before in
-    sym (rfc1123-stop (z .args .present) (z .args .s .now) (z .args .day) (z .pre) _ (c .before .fitting-at .ensures) (c .if1 .taken))
+    sym (rfc1123-stop (z .args .present-year) (z .args .s .now) (z .args .day) (z .pre) _ (c .before .fitting-at .ensures) (c .if1 .taken))
 
 read-tail-requires : tie.Need-read-tail-requires
 read-tail-requires c κs =
     let z = c .before .before .before .before .before in
-    rfc1123-end (z .args .present) (z .args .s .now) (z .args .day) (z .pre) _ (c .before .before .fitting-at .ensures) (c .before .if1 .left)
+    rfc1123-end (z .args .present-year) (z .args .s .now) (z .args .day) (z .pre) _ (c .before .before .fitting-at .ensures) (c .before .if1 .left)
 
 pub read-rfc1123-spec : {M : Type 1} → statement M
 read-rfc1123-spec =

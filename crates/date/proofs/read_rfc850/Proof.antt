@@ -13,7 +13,7 @@ returns : tie.Need-returns
 returns c =
     let z = c .before .before .before .before in
     let x = z .args in
-    sym (rfc850-stop (x .present) (x .s .now) (x .day) (z .pre .0) (x .head .now) (z .pre .1) _ (c .before .fitting-at .ensures) (c .if1 .taken))
+    sym (rfc850-stop (x .present-year) (x .s .now) (x .day) (z .pre .0) (x .head .now) (z .pre .1) _ (c .before .fitting-at .ensures) (c .if1 .taken))
 
 -- places behind a head are small numbers
 small : (c : tie.Else1) → c .before .fitting-at .result ≤ 11
@@ -26,7 +26,7 @@ read-tail-requires : tie.Need-read-tail-requires
 read-tail-requires c κs =
     let z = c .before .before .before .before .before in
     let x = z .args in
-    rfc850-end (x .present) (x .s .now) (x .day) (z .pre .0) (x .head .now) (z .pre .1) _ (c .before .before .fitting-at .ensures) (c .before .if1 .left)
+    rfc850-end (x .present-year) (x .s .now) (x .day) (z .pre .0) (x .head .now) (z .pre .1) _ (c .before .before .fitting-at .ensures) (c .before .if1 .left)
 
 pub read-rfc850-spec : {M : Type 1} → statement M
 read-rfc850-spec =

@@ -55,7 +55,7 @@ returns-2 c =
     let m = year .before .before in
     let z = entry m in
     c .judge .ensures
-    ∙ fields-read (z .args .present) (z .args .s .now) (z .args .day) (m .month .given .0 .0) (z .args .places) _ _ _ _ _ (year .year-at .ensures)
+    ∙ fields-read (z .args .present-year) (z .args .s .now) (z .args .day) (m .month .given .0 .0) (z .args .places) _ _ _ _ _ (year .year-at .ensures)
     (day .two-digits .ensures .0) (hour .two-digits2 .ensures .0) (minute .two-digits3 .ensures .0) (second .two-digits4 .ensures .0)
     ∙ sym (z .pre .ends (m .month .given .0 .0) (month-read m))
 

@@ -7,7 +7,7 @@ use Rattle.date.proofs.year_at.Tie as tie
 
 returns : tie.Need-returns
 returns c =
-    let y = c .before .before .before .before .args .present in
+    let y = c .before .before .before .before .args .present-year in
     rw (c .before .before .if1 .taken) (c .full-year .ensures ∙ ap (full-year y) (c .before .two-digits .ensures .0))
 
 returns-2 : tie.Need-returns-2
