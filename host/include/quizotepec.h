@@ -240,8 +240,16 @@ typedef struct QzDate {
     uint32_t second;
 } QzDate;
 
-/* A date in the form of RFC 1123, of RFC 850 or of asctime. The present year is 1632 to 9949; two digits of a year
- * mean the one from 49 years before it to 50 years after it that ends in them. */
+enum {
+    /* The first present year in which dates are read: 49 years before it is the first year of a date. */
+    QZ_FIRST_PRESENT_YEAR = 1632,
+    /* The last one: 50 years after it is the last year of a date. */
+    QZ_LAST_PRESENT_YEAR = 9949
+};
+
+/* A date in the form of RFC 1123, of RFC 850 or of asctime. Two digits of a year mean the one from 49 years before the
+ * present year to 50 years after it that ends in them (RFC 2616 19.3). A present year before QZ_FIRST_PRESENT_YEAR or
+ * after QZ_LAST_PRESENT_YEAR is QZ_OUT_OF_RANGE, before anything is read. */
 QzDate qz_date_read(const uint8_t *s, size_t s_len, uint32_t present_year);
 
 /* Writes the 29 bytes of the RFC 1123 form; the range is -12,212,553,600 to 253,402,300,799. */

@@ -24,8 +24,15 @@ pub struct QzDate {
     pub second: u32,
 }
 
-// A date in the form of RFC 1123, of RFC 850 or of asctime. The present year is 1632 to 9949; two digits of a year mean the one from 49
-// years before it to 50 years after it that ends in them.
+// The first present year in which dates are read: 49 years before it is the first year of a date.
+pub const FIRST_PRESENT_YEAR: u32 = 1632;
+
+// The last one: 50 years after it is the last year of a date.
+pub const LAST_PRESENT_YEAR: u32 = 9949;
+
+// A date in the form of RFC 1123, of RFC 850 or of asctime. Two digits of a year mean the one from 49 years before the present year to 50
+// years after it that ends in them (RFC 2616 19.3). A present year before QZ_FIRST_PRESENT_YEAR or after QZ_LAST_PRESENT_YEAR is
+// QZ_OUT_OF_RANGE, before anything is read.
 #[no_mangle]
 pub extern "C" fn qz_date_read(s: &[u8], present_year: u32) -> QzDate
     ensures { λ r. ⌜ r ≡ date-fields (reading «present_year» (now (s .entry))) ⌝ }

@@ -208,6 +208,12 @@ pub struct QzDate {
     pub second: u32,
 }
 
+/// The first present year in which dates are read: 49 years before it is the first year of a date.
+pub const FIRST_PRESENT_YEAR: u32 = 1632;
+
+/// The last one: 50 years after it is the last year of a date.
+pub const LAST_PRESENT_YEAR: u32 = 9949;
+
 /// An attribute, and its value without its quotes; pairs stay as sent.
 #[repr(C)]
 #[derive(Clone, Copy)]
