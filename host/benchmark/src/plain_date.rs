@@ -218,7 +218,9 @@ pub fn read(input: &[u8], present_year: u32) -> Result<Date, Refusal> {
 #[cfg(test)]
 mod tests {
     use super::*;
-    use independent::generate::{any, at_limits, every, present_year, rfc850_date, short, Kind, Rng};
+    use independent::generate::{
+        any, at_limits, every, present_year, present_years, rfc850_date, short, Kind, Rng,
+    };
     use quizotepec::date_read;
 
     const ROUNDS: usize = 20_000;
@@ -239,13 +241,14 @@ mod tests {
 
     #[test]
     fn dates_at_limits() {
-        let mut rng = Rng::new(2);
-        at_limits(Kind::Date).iter().for_each(|input| agree(input, present_year(&mut rng)));
+        for year in present_years() {
+            at_limits(Kind::Date).iter().for_each(|input| agree(input, year));
+        }
     }
 
     #[test]
     fn short_dates() {
-        let mut rng = Rng::new(3);
+        let mut rng = Rng::new(2);
         let inputs = short(Kind::Date).iter().flat_map(|family| every(*family));
         inputs.for_each(|input| agree(&input, present_year(&mut rng)));
     }
