@@ -169,9 +169,12 @@ static bool is_year(uint32_t year, const Call *c)
         FOUR_DIGITS = 29, /* a form whose year has four digits is not longer */
         BEHIND = 13       /* bytes of ` 08:49:37 GMT` */
     };
-    const uint8_t *end = c->a.bytes + c->a.length - BEHIND;
-    return c->a.length <= FOUR_DIGITS ||
-           (year % 100 == (end[-2] - '0') * 10u + (end[-1] - '0') && year + 49 >= c->year && year <= c->year + 50);
+    const uint8_t *end;
+    if (c->a.length <= FOUR_DIGITS) {
+        return true;
+    }
+    end = c->a.bytes + c->a.length - BEHIND;
+    return year % 100 == (end[-2] - '0') * 10u + (end[-1] - '0') && year + 49 >= c->year && year <= c->year + 50;
 }
 
 static Answer of_QzDate(QzDate r, const Call *c)

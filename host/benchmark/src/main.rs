@@ -1,4 +1,4 @@
-//! The proved library against the independent implementation and a bare copy. It prints ratios, never bare times.
+//! The proved library against plain readers, the independent implementation and a bare copy. It prints ratios, never bare times.
 
 mod bodies;
 mod dates;

@@ -1,8 +1,8 @@
 //! Dates read in one pass, for speed: the baseline of their benchmark.
 
-use independent::date::is_leap;
+use independent::date::{is_leap, FIRST_PRESENT_YEAR, LAST_PRESENT_YEAR};
 use independent::HEADER_LIMIT;
-use quizotepec::{Date, Refusal, FIRST_PRESENT_YEAR, LAST_PRESENT_YEAR};
+use quizotepec::{Date, Refusal};
 
 const DAYS: [[u8; 3]; 7] = [*b"Mon", *b"Tue", *b"Wed", *b"Thu", *b"Fri", *b"Sat", *b"Sun"];
 /// What the long name of each day has behind the short one.

@@ -1,5 +1,6 @@
 //! Readers of header values against the independent ones.
 
+use crate::dates::PRESENT_YEAR;
 use crate::measure::{timed, times_as_long, Ratio};
 use std::hint::black_box;
 use std::time::Duration;
@@ -17,8 +18,6 @@ struct Kind {
     ours: Read,
     theirs: Read,
 }
-
-const PRESENT_YEAR: u32 = 2026;
 
 fn our_date(value: &[u8]) -> Result<quizotepec::Date, quizotepec::Refusal> {
     quizotepec::date_read(value, PRESENT_YEAR)

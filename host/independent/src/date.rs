@@ -16,7 +16,7 @@ pub const LENGTH: usize = 29;
 pub const FIRST_PRESENT_YEAR: u32 = 1632;
 pub const LAST_PRESENT_YEAR: u32 = 9949;
 /// "With 2019 the old results return."
-pub const BASE_YEAR: u32 = 2019;
+pub const OLD_RESULTS_YEAR: u32 = 2019;
 pub(crate) const YEARS_BACK: u32 = 49;
 pub(crate) const YEARS_AHEAD: u32 = 50;
 

@@ -73,7 +73,7 @@ impl Kind {
     pub fn refusal(self, input: &[u8]) -> Option<Refusal> {
         match self {
             Kind::Version => version::read(input).err(),
-            Kind::Date => date::read(input, date::BASE_YEAR).err(),
+            Kind::Date => date::read(input, date::OLD_RESULTS_YEAR).err(),
             Kind::Delta => delta::read(input).err(),
             Kind::Qvalue => qvalue::read(input).err(),
             Kind::Language => language::read(input).err(),

@@ -1,6 +1,8 @@
 //! Two-digit years and the present year (request ii), on both sides of each line.
 
-use independent::date::{self, Date, BASE_YEAR, DAY_NAMES, FIRST_PRESENT_YEAR, LAST_PRESENT_YEAR, LENGTH};
+use independent::date::{
+    self, Date, DAY_NAMES, FIRST_PRESENT_YEAR, LAST_PRESENT_YEAR, LENGTH, OLD_RESULTS_YEAR,
+};
 use independent::generate::{any, at_limits, present_years, Kind, Rng};
 use independent::{Refusal, HEADER_LIMIT};
 
@@ -62,7 +64,7 @@ fn both_ends_of_the_window() {
 
 #[test]
 fn range_of_the_present_year() {
-    assert_eq!((FIRST_PRESENT_YEAR, LAST_PRESENT_YEAR, BASE_YEAR), (1632, 9949, 2019));
+    assert_eq!((FIRST_PRESENT_YEAR, LAST_PRESENT_YEAR, OLD_RESULTS_YEAR), (1632, 9949, 2019));
 }
 
 /// The number and the place of the refusal.
@@ -232,7 +234,7 @@ fn only_the_rfc850_form_follows_the_clock() {
     let (mut same, mut other) = (0, 0);
     for input in random.iter().chain(limits.iter().step_by(11)) {
         let present = rng.pick(&years);
-        if date::read(input, BASE_YEAR) == date::read(input, present) {
+        if date::read(input, OLD_RESULTS_YEAR) == date::read(input, present) {
             same += 1;
             continue;
         }

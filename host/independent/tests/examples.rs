@@ -1,7 +1,7 @@
 //! The examples of document 01, those of RFC 2616 section 3, and cases on both sides of each line.
 
 use independent::chunked::{decode, encode, Decoded, BODY_LIMIT, LINE_LIMIT, TRAILER_LIMIT};
-use independent::date::{BASE_YEAR, EARLIEST, LATEST, LENGTH};
+use independent::date::{EARLIEST, LATEST, LENGTH, OLD_RESULTS_YEAR};
 use independent::delta::Seconds;
 use independent::media::{Charset, PARAMETER_LIMIT};
 use independent::version::Version;
@@ -27,7 +27,7 @@ fn which(which: Which, number: u8, place: usize) -> Refused {
 #[test]
 fn empty_header_values_are_malformed_at_zero() {
     refused(version::read(b""), 1, 0);
-    refused(date::read(b"", BASE_YEAR), 1, 0);
+    refused(date::read(b"", OLD_RESULTS_YEAR), 1, 0);
     refused(delta::read(b""), 1, 0);
     refused(qvalue::read(b""), 1, 0);
     refused(language::read(b""), 1, 0);
@@ -47,7 +47,7 @@ fn header_values_above_the_limit() {
     refused(language::read(&long(HEADER_LIMIT)), 1, 0);
     assert_eq!(products::read(&long(HEADER_LIMIT)).map(|answer| answer.products), Ok(1));
     refused(products::read(&long(HEADER_LIMIT + 1)), 13, HEADER_LIMIT);
-    refused(date::read(&long(HEADER_LIMIT + 1), BASE_YEAR), 13, HEADER_LIMIT);
+    refused(date::read(&long(HEADER_LIMIT + 1), OLD_RESULTS_YEAR), 13, HEADER_LIMIT);
 }
 
 #[test]
@@ -104,7 +104,7 @@ fn version_writer() {
 
 #[test]
 fn date_forms() {
-    let read = |text: &str| date::read(text.as_bytes(), BASE_YEAR);
+    let read = |text: &str| date::read(text.as_bytes(), OLD_RESULTS_YEAR);
     let seconds = |text| read(text).map(|date| date.seconds);
     assert_eq!(seconds("Sun, 06 Nov 1994 08:49:37 GMT"), Ok(784_111_777));
     assert_eq!(seconds("Sunday, 06-Nov-94 08:49:37 GMT"), Ok(784_111_777));
@@ -137,11 +137,11 @@ fn dates_that_do_not_exist() {
         "Monday, 29-Feb-01 08:49:37 GMT",
         "Sun Nov  0 08:49:37 1994",
     ] {
-        refused(date::read(text.as_bytes(), BASE_YEAR), 3, 0);
+        refused(date::read(text.as_bytes(), OLD_RESULTS_YEAR), 3, 0);
     }
-    refused(date::read(b"Mon, 06 Nov 1994 08:49:37 GMT", BASE_YEAR), 4, 0);
-    refused(date::read(b"Monday, 06-Nov-94 08:49:37 GMT", BASE_YEAR), 4, 0);
-    refused(date::read(b"Mon Nov  6 08:49:37 1994", BASE_YEAR), 4, 0);
+    refused(date::read(b"Mon, 06 Nov 1994 08:49:37 GMT", OLD_RESULTS_YEAR), 4, 0);
+    refused(date::read(b"Monday, 06-Nov-94 08:49:37 GMT", OLD_RESULTS_YEAR), 4, 0);
+    refused(date::read(b"Mon Nov  6 08:49:37 1994", OLD_RESULTS_YEAR), 4, 0);
 }
 
 #[test]
@@ -165,7 +165,7 @@ fn malformed_dates() {
         ("Th", 2),
         ("Tx", 1),
     ] {
-        refused(date::read(text.as_bytes(), BASE_YEAR), 1, place);
+        refused(date::read(text.as_bytes(), OLD_RESULTS_YEAR), 1, place);
     }
 }
 

@@ -131,7 +131,7 @@ fn dates_without_a_window() {
     }
 }
 
-/// Day names that are right a century off; and 29 February of `00`, which is always 3 but where 2000 is chosen.
+/// Day names that are right a century off; and 29 February of `00`, which is 3 where 1900 is chosen and exists in 2000.
 #[test]
 fn dates_of_the_centuries_beside() {
     let mut rng = Rng::new(19);

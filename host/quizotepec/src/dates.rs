@@ -45,11 +45,11 @@ impl Date {
     }
 }
 
-/// The first present year under which dates are read: 49 years before it is 1583, the first year of a [`Date`].
-pub const FIRST_PRESENT_YEAR: u32 = 1632;
+/// The first present year in which dates are read, 1632: 49 years before it is 1583, the first year of a [`Date`].
+pub const FIRST_PRESENT_YEAR: u32 = raw::FIRST_PRESENT_YEAR;
 
-/// The last present year under which dates are read: 50 years after it is 9999, the last year of a [`Date`].
-pub const LAST_PRESENT_YEAR: u32 = 9949;
+/// The last present year in which dates are read, 9949: 50 years after it is 9999, the last year of a [`Date`].
+pub const LAST_PRESENT_YEAR: u32 = raw::LAST_PRESENT_YEAR;
 
 /// Reads a date in the form of RFC 1123, of RFC 850 or of asctime.
 ///
@@ -89,8 +89,7 @@ pub fn date_read(value: &[u8], present_year: u32) -> Result<Date, Refusal> {
 
 /// Reads a date as [`date_read`] does, with the year of `now` in GMT as the present one.
 ///
-/// A time outside the years 1583 to 9999 is refused by the writer that gives its year, one in 1583 to 1631 or in 9950
-/// to 9999 by the reader; both refusals are [`Refusal::OutOfRange`].
+/// A time whose year is not one of 1632 to 9949 is [`Refusal::OutOfRange`].
 ///
 /// ```
 /// use quizotepec::{date_read_at, Refusal};

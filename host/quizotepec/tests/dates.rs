@@ -3,7 +3,7 @@
 mod common;
 
 use common::{at, changes, date_of, raw, refusal, unused, RANDOM};
-use independent::date::{is_leap, BASE_YEAR, DAY_NAMES};
+use independent::date::{is_leap, DAY_NAMES, OLD_RESULTS_YEAR};
 use independent::generate::{
     any, at_limits, damage, every, present_year, present_years, rfc850_date, short, two_digit_years, valid,
     Kind, Rng,
@@ -35,7 +35,7 @@ fn agree_in(present_year: u32, input: &[u8]) {
 fn agree(input: &[u8]) {
     let seed = input.iter().fold(0_u64, |seed, byte| seed.wrapping_mul(257).wrapping_add(u64::from(*byte)));
     let mut rng = Rng::new(seed);
-    agree_in(BASE_YEAR, input);
+    agree_in(OLD_RESULTS_YEAR, input);
     (0..DRAWN).for_each(|_| agree_in(present_year(&mut rng), input));
 }
 
@@ -121,10 +121,10 @@ fn both_give(answer: Result<u32, Refusal>, input: &[u8], present_year: u32) {
     assert_eq!(ours, theirs, "{input:?} in {present_year}");
 }
 
-/// The hundred years of each present year: "the year from Y-49 to Y+50 with those digits". The name of the day is that
+/// The window of each present year: "the year from Y-49 to Y+50 with those digits". The name of the day is that
 /// of the year; then the one of a century later or earlier, as a window too late or too early would choose. It gives
 /// how many years there were.
-fn hundred_years(present_years: RangeInclusive<u32>) -> usize {
+fn whole_windows(present_years: RangeInclusive<u32>) -> usize {
     let names = march_names();
     let name_of = |year: u32| names[(year % CYCLE) as usize];
     let texts: Vec<_> = (0..100).map(named).collect();
@@ -148,7 +148,7 @@ fn every_present_year() {
     let part = |first: u32| first..=LAST_PRESENT_YEAR.min(first + share - 1);
     let count: usize = thread::scope(|scope| {
         let firsts = (FIRST_PRESENT_YEAR..=LAST_PRESENT_YEAR).step_by(share as usize);
-        let threads: Vec<_> = firsts.map(|first| scope.spawn(move || hundred_years(part(first)))).collect();
+        let threads: Vec<_> = firsts.map(|first| scope.spawn(move || whole_windows(part(first)))).collect();
         threads.into_iter().map(|thread| thread.join().expect("both readers agree")).sum()
     });
     assert_eq!(count, 831_800);

@@ -330,10 +330,10 @@ fn tags() {
 }
 
 /// "With 2019 the old results return."
-const BASE_YEAR: u32 = 2019;
+const OLD_RESULTS_YEAR: u32 = 2019;
 
 fn date(text: &str) -> Result<Date, Refusal> {
-    date_read(text.as_bytes(), BASE_YEAR)
+    date_read(text.as_bytes(), OLD_RESULTS_YEAR)
 }
 
 #[test]
@@ -367,7 +367,7 @@ fn dates() {
     let seconds = |text: &str| date(text).map(|date| (date.year, date.seconds));
     assert_eq!(seconds("Tuesday, 31-Dec-69 00:00:00 GMT"), Ok((2069, 3_155_673_600)));
     assert_eq!(seconds("Thursday, 01-Jan-70 00:00:00 GMT"), Ok((1970, 0)));
-    assert_eq!(date_read(&[b'S'; 8_193], BASE_YEAR), no(13, 8_192));
+    assert_eq!(date_read(&[b'S'; 8_193], OLD_RESULTS_YEAR), no(13, 8_192));
 }
 
 fn year(present_year: u32, text: &str) -> Result<u32, Refusal> {

@@ -1,7 +1,9 @@
 //! Dates, the present years that go with them, and instants for the writer.
 
 use super::Rng;
-use crate::date::{self, Date, BASE_YEAR, FIRST_PRESENT_YEAR, FIRST_YEAR, LAST_PRESENT_YEAR, LAST_YEAR};
+use crate::date::{
+    self, Date, FIRST_PRESENT_YEAR, FIRST_YEAR, LAST_PRESENT_YEAR, LAST_YEAR, OLD_RESULTS_YEAR,
+};
 use crate::date::{DAY_NAMES, DAY_SECONDS, EARLIEST, LATEST, MONTH_NAMES, YEARS_AHEAD, YEARS_BACK};
 
 /// The ends of the range, of years and of leap days, and the instants next to 1970.
@@ -64,9 +66,9 @@ pub(super) fn date_forms(fields: Date, name: &str) -> [String; 4] {
 
 /// The ends of the range, the year of the old results, a recent one, and the first with which `00` is 2000 and
 /// 2100.
-const NOTABLE_YEARS: [u32; 6] = [FIRST_PRESENT_YEAR, LAST_PRESENT_YEAR, BASE_YEAR, 2026, 1950, 2050];
+const NOTABLE_YEARS: [u32; 6] = [FIRST_PRESENT_YEAR, LAST_PRESENT_YEAR, OLD_RESULTS_YEAR, 2026, 1950, 2050];
 /// Zero, two digits alone, the first and the last year of dates, one that is 2019 in 16 bits, and large ones.
-const FAR_YEARS: [u32; 7] = [0, 19, 1583, 9999, BASE_YEAR + (1 << 16), 1 << 31, u32::MAX];
+const FAR_YEARS: [u32; 7] = [0, 19, 1583, 9999, OLD_RESULTS_YEAR + (1 << 16), 1 << 31, u32::MAX];
 
 /// Present years near the notable ones, so on both sides of each end of their range, and far outside it.
 pub fn present_years() -> Vec<u32> {
