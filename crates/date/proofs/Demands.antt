@@ -8,10 +8,10 @@ use mathlib.Core.List.{List, [], _∷_}
 use lib.ListN.{length}
 use Rattle.grammar.specs.Grammar.{Part, Parses}
 use Rattle.grammar.specs.Refusals.{NO_SUCH_DATE, WRONG_DAY_NAME}
-use Rattle.grammar.specs.Reading.{value-limit, Limit, Breaks, Verdict, value, refused, Answers, faulty, reads}
+use Rattle.grammar.specs.Reading.{value-limit, Sound, Verdict, value, refused, Answers, faulty, reads}
 use Rattle.grammar.specs.Arguments.{Asked, in-range}
 use Rattle.grammar.specs.helpers.Judge.{header}
-use Rattle.grammar.proofs.Demands.{answered-exactly, asked-exactly, one-parse}
+use Rattle.grammar.proofs.Demands.{unlimited, answered-exactly, asked-exactly, one-parse}
 use Rattle.octets.specs.Numbers.{number}
 use Rattle.calendar.specs.Gregorian.{first-year, last-year, weekday, day-number, exists?}
 use Rattle.calendar.proofs.Demands as Calendar
@@ -101,8 +101,8 @@ module _ (x : Said) where
       × (exists? (x .fields) ≡ true → x .named ≡ day-of-week → v ≡ value (value-of (x .fields)))
 
 module _ (y : ℕ) (py : PresentYear y) (s : List ℕ) (short : length s ≤ value-limit) where
-  unbroken : (k : ℕ) (l : Limit) → k < length s → Breaks (rules y) s l k → ⊥
-  unbroken k l h b = let e = b .1 .2 in let z : _≡_ {A = ℕ} 0 1 = cc in absurd (omega arith)
+  unbroken : Sound (rules y) s (length s)
+  unbroken = unlimited (rules y) (λ k ps. refl) s (length s)
 
   asked-for : (v : Verdict Date) → Answers (rules y) s v → reading y s ≡ v
   asked-for v a = reading-in y py s ∙ answered-exactly (rules y) tt tt one-way s v .1 a

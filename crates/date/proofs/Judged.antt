@@ -2,10 +2,10 @@
 use Prim.Native.Nat.{ℕ}
 use native.Mathlib.Omega.{arith}
 use borrow.Author.Tests.{eq-eqb, ne-eqb}
-use mathlib.Core.Path.{_≡_, refl, sym, ap, ap₂, _∙_}
+use mathlib.Core.Path.{_≡_, refl, sym, ap, _∙_}
 use mathlib.Core.Bool.{Bool, true, false, cond}
 use mathlib.Core.List.{List, [], _∷_}
-use mathlib.Core.Option.{none, some}
+use mathlib.Core.Option.{Option, none, some}
 use lib.Dec.{eqb}
 use lib.IntN.{ℤ, pos, negsuc}
 use mir.Syntax.{w64}
@@ -14,7 +14,7 @@ use mir.Facts.{toZ-ofZ}
 use denote.Enum.Declared.{tagOf}
 use types.Run.{OneOf, miss}
 use Rattle.calendar.proofs.Located.{the-type}
-use Rattle.grammar.specs.Reading.{value, refused, no-such-date, wrong-day, Answers, reads}
+use Rattle.grammar.specs.Reading.{Fault, value, refused, no-such-date, wrong-day, Answers, reads}
 use Rattle.grammar.specs.Arguments.{Asked, in-range as argument-in-range}
 use Rattle.grammar.specs.helpers.Judge.{unless-fault}
 use Rattle.calendar.specs.declared.Fields.{Fields}
@@ -39,6 +39,21 @@ range-fits : (s : ℤ) → in-range? s ≡ true → SFits w64 s
 range-fits (pos n) e = record { sfits = omega (arith, late n e) }
 range-fits (negsuc n) e = record { sfits = omega (arith, early n e) }
 
+-- the faults, by what the calendar says
+module _ (k : ℕ) (f : Fields) where
+  pub fault-nowhere : exists? f ≡ false → fault-of k f ≡ some no-such-date
+  unfolding fault-of
+  fault-nowhere e = rw e
+
+  module _ (e : exists? f ≡ true) where
+    pub fault-wrong : (k ≡ Gregorian.weekday (day-number (f .year) (f .month) (f .day)) → ⊥) → fault-of k f ≡ some wrong-day
+    unfolding fault-of
+    fault-wrong n = rw (e, ne-eqb k (Gregorian.weekday (day-number (f .year) (f .month) (f .day))) n)
+
+    pub fault-none : k ≡ Gregorian.weekday (day-number (f .year) (f .month) (f .day)) → fault-of k f ≡ none
+    unfolding fault-of
+    fault-none n = rw (e, eq-eqb k (Gregorian.weekday (day-number (f .year) (f .month) (f .day))) n)
+
 module _ (f : Fields) where
   abbrev day-of-week : ℕ
   day-of-week = Gregorian.weekday (day-number (f .year) (f .month) (f .day))
@@ -60,43 +75,28 @@ module _ (f : Fields) where
       go true d e = absurd (let z : _≡_ {A = ℕ} 0 1 = cc in omega arith)
       go false d e = d
 
-  judged-as : (k : ℕ) (t u : Bool) → exists? f ≡ t → eqb k (Gregorian.weekday (day-number (f .year) (f .month) (f .day))) ≡ u
-      → unless-fault (cond t (cond u none (some wrong-day)) (some no-such-date)) (value-of f) ≡ judged k f
-  unfolding judged fault-of
-  judged-as k t u a b = ap₂ (λ (x y : Bool). unless-fault (cond x (cond y none (some wrong-day)) (some no-such-date)) (value-of f)) (sym a) (sym b)
+  -- the answer, where the fault is known
+  by-fault : (k : ℕ) (o : Option Fault) → fault-of k f ≡ o → unless-fault o (value-of f) ≡ judged k f
+  unfolding judged
+  by-fault k o e = ap (λ (x : Option Fault). unless-fault x (value-of f)) (sym e)
 
   pub judged-nowhere : (k : ℕ) → Nowhere ≡ located f → refused 3 0 ≡ judged k f
-  judged-nowhere k e = judged-as k false (eqb k (Gregorian.weekday (day-number (f .year) (f .month) (f .day)))) (nowhere-is e) refl
+  judged-nowhere k e = by-fault k (some no-such-date) (fault-nowhere k f (nowhere-is e))
 
   pub judged-wrong : (k : ℕ) (s : ℤ) (w : ℕ) → At s w ≡ located f → (w ≡ k → ⊥) → refused 4 0 ≡ judged k f
   judged-wrong k s w e n =
       let l = located-is s w e in
-      judged-as k true false (l .0) (ne-eqb k (Gregorian.weekday (day-number (f .year) (f .month) (f .day))) (λ q. n (l .2 ∙ sym q)))
+      by-fault k (some wrong-day) (fault-wrong k f (l .0) (λ q. n (l .2 ∙ sym q)))
 
   pub judged-right : (k : ℕ) (s : ℤ) (w : ℕ) → At s w ≡ located f → w ≡ k → value (record { fields = f; seconds = toZ w64 (ofZ w64 s) }) ≡ judged k f
   judged-right k s w e n =
       let l = located-is s w e in
       let b : SFits w64 (seconds-of f) = range-fits (seconds-of f) (in-range f (l .0)) in
       ap (λ (z : ℤ). value (record { fields = f; seconds = z })) (ap (λ (z : ℤ). toZ w64 (ofZ w64 z)) (l .1) ∙ toZ-ofZ b)
-      ∙ judged-as k true true (l .0) (eq-eqb k (Gregorian.weekday (day-number (f .year) (f .month) (f .day))) (sym n ∙ l .2))
+      ∙ by-fault k none (fault-none k f (l .0) (sym n ∙ l .2))
 
   pub judged-well : (k : ℕ) → exists? f ≡ true → k ≡ Gregorian.weekday (day-number (f .year) (f .month) (f .day)) → judged k f ≡ value (value-of f)
-  judged-well k e w = sym (judged-as k true true e (eq-eqb k (Gregorian.weekday (day-number (f .year) (f .month) (f .day))) w))
-
--- the faults, by what the calendar says
-module _ (k : ℕ) (f : Fields) where
-  pub fault-nowhere : exists? f ≡ false → fault-of k f ≡ some no-such-date
-  unfolding fault-of
-  fault-nowhere e = rw e
-
-  module _ (e : exists? f ≡ true) where
-    pub fault-wrong : (k ≡ Gregorian.weekday (day-number (f .year) (f .month) (f .day)) → ⊥) → fault-of k f ≡ some wrong-day
-    unfolding fault-of
-    fault-wrong n = rw (e, ne-eqb k (Gregorian.weekday (day-number (f .year) (f .month) (f .day))) n)
-
-    pub fault-none : k ≡ Gregorian.weekday (day-number (f .year) (f .month) (f .day)) → fault-of k f ≡ none
-    unfolding fault-of
-    fault-none n = rw (e, eq-eqb k (Gregorian.weekday (day-number (f .year) (f .month) (f .day))) n)
+  judged-well k e w = sym (by-fault k none (fault-none k f e w))
 
 -- a date without a fault exists
 pub no-fault : (k : ℕ) (f : Fields) → fault-of k f ≡ none → exists? f ≡ true

@@ -56,15 +56,15 @@ says-month f = record {
 abbrev two-digits : Grammar Name
 two-digits = byte DIGIT ⨾ byte DIGIT
 
-number-part : (l : Name) (g : Grammar Name) (i : ℕ) (s : List ℕ) (ps : List (Part Name)) (m : Parses (two l g) i s ps)
+two-digit-part : (l : Name) (g : Grammar Name) (i : ℕ) (s : List ℕ) (ps : List (Part Name)) (m : Parses (two l g) i s ps)
     → ps ≡ record { label = l; start = i; text = m .0 } ∷ m .3
-number-part l g i s ps m =
+two-digit-part l g i s ps m =
     m .5 ∙ ap (λ (qs : List (Part Name)). qs ++ m .3)
     (plain-part l two-digits (plain-seq (byte DIGIT) (byte DIGIT) (plain-byte DIGIT) (plain-byte DIGIT)) i (m .0) (m .2) (m .6))
 
 says-number : {g : Grammar Name} → Says g → Says (two day g)
 says-number {g} f = record {
-  of = λ i s ps m. subst SaysShort (sym (number-part day g i s ps m))
+  of = λ i s ps m. subst SaysShort (sym (two-digit-part day g i s ps m))
       (let x = f .of (past i (m .0)) (m .1) (m .3) (m .7) in (x .0, inr (x .1), x .2, x .3, λ f h e. (λ q. absurd (true≢false q), x .4 f h e)));
 }
 
@@ -82,7 +82,7 @@ two-below i t ps m =
 
 says-short : (g : Grammar Name) → T (labels? full? g) → Says (two short-year g)
 says-short g none = record {
-  of = λ i s ps m. subst SaysShort (sym (number-part short-year g i s ps m)) (
+  of = λ i s ps m. subst SaysShort (sym (two-digit-part short-year g i s ps m)) (
     m .0,
     inl (refl, refl),
     two-below i (m .0) (m .6 .0) (m .6 .2),

@@ -9,10 +9,10 @@ use mathlib.Core.List.{List, _++_}
 use lib.Dec.{T}
 use lib.ListN.{length, replicate, length-append, length-replicate}
 use Rattle.grammar.specs.Beginnings.{Matches}
-use Rattle.grammar.specs.Reading.{Limit, value-limit, Verdict, value, refused, Breaks, Answers, too-long, malformed, breaks, faulty, reads}
+use Rattle.grammar.specs.Reading.{value-limit, Sound, Verdict, value, refused, Answers, too-long, malformed, breaks, faulty, reads}
 use Rattle.grammar.specs.helpers.Judge.{header}
 use Rattle.grammar.proofs.Deterministic.{deterministic?}
-use Rattle.grammar.proofs.Demands.{answered-exactly}
+use Rattle.grammar.proofs.Demands.{unlimited, answered-exactly}
 use Rattle.octets.specs.Bytes.{digit?}
 use Rattle.octets.specs.Numbers.{number, capped-number}
 use Rattle.scans.proofs.Caps as Caps
@@ -51,13 +51,13 @@ module _ (s : List ℕ) (v : Seconds) (e : header rules s ≡ value v) where
       (λ t. c .0 (sym m ∙ t), λ h. m ∙ c .1 h)
 
 -- "they never get refusal 2": each well-formed text that is not too long is read, however large its number is, and refusals are 13 and 1.
-unbroken : (s : List ℕ) (l : Limit) (k : ℕ) → Breaks rules s l k → ⊥
-unbroken s l k b = let e = b .1 .2 in let z : _≡_ {A = ℕ} 0 1 = cc in absurd (omega arith)
+unbroken : (s : List ℕ) → Sound rules s (length s)
+unbroken s = unlimited rules (λ k ps. refl) s (length s)
 
 pub all-read : (s : List ℕ) → Matches delta-seconds s → length s ≤ value-limit → header rules s ≡ value (seconds-of s)
 all-read s m l =
     reading s (value (seconds-of s)) .1
-    (subst (λ (v : Seconds). Answers rules s (value v)) (ap (rules .value) (m .1 .1)) (reads l (m .1) (λ k x h. unbroken s x k) refl))
+    (subst (λ (v : Seconds). Answers rules s (value v)) (ap (rules .value) (m .1 .1)) (reads l (m .1) (unbroken s) refl))
 
 pub refusals : (s : List ℕ) (n place : ℕ) → header rules s ≡ refused n place → (n ≡ 13) ⊎ (n ≡ 1)
 refusals s n place e = go (refused n place) refl (reading s (refused n place) .0 e)
@@ -65,7 +65,7 @@ refusals s n place e = go (refused n place) refl (reading s (refused n place) .0
     go : (v : Verdict Seconds) → v ≡ refused n place → Answers rules s v → (n ≡ 13) ⊎ (n ≡ 1)
     go v f (too-long l) = inl cc
     go v f (malformed l m o q) = inr cc
-    go v f (breaks {l} {p} h b q) = absurd (unbroken s l p b)
+    go v f (breaks {l} {p} h b q) = absurd (unbroken s p l (b .0) b)
     go v f (faulty l m q d) = let z : _≡_ {A = ℕ} 0 1 = cc in absurd (omega arith)
     go v f (reads l m q d) = let z : _≡_ {A = ℕ} 0 1 = cc in absurd (omega arith)
 

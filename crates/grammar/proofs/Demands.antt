@@ -1,10 +1,11 @@
 -- The theorems of header values, for any kind of them: what a customer reads. Document 01, "Refusal numbers".
 use Prim.Native.Nat.{ℕ, zero, suc, _≤_}
 use native.Mathlib.Omega.{arith}
-use mathlib.Core.Path.{_≡_, refl}
+use mathlib.Core.Path.{_≡_, refl, sym, _∙_}
 use mathlib.Core.Logic.{_↔_}
 use mathlib.Core.Bool.{Bool, true, false, cond}
 use mathlib.Core.List.{List, _++_}
+use mathlib.Core.Option.{none, some}
 use lib.Dec.{T}
 use lib.ListN.{length}
 use Rattle.grammar.specs.Grammar.{Part, Grammar, Parses}
@@ -36,6 +37,13 @@ module _ {L A : Type 0} (r : Rules L A) where
   unbroken-unpassed s n sound within zero l h passed = passed
   unbroken-unpassed s n sound within (suc k) l h passed =
       sound k l (omega arith) (omega arith, passed, unbroken-unpassed s n sound within k l (omega arith))
+
+  -- A kind without limits: no byte breaks one.
+  pub unlimited : ((k : ℕ) (ps : List (Part L)) → r .limit k ps ≡ none) → (s : List ℕ) (n : ℕ) → Sound r s n
+  unlimited quiet s n k l h b = let z : _≡_ {A = ℕ} 0 1 = none-some (sym (quiet k (b .1 .0)) ∙ b .1 .2) in omega arith
+    where
+      none-some : none ≡ some l → _≡_ {A = ℕ} 0 1
+      none-some e = cc
 
 -- For a grammar that passes three checks, each computed: it has a text, no part of it has begun, and no text can be read in two ways.
 module _ {L A : Type 0} (r : Rules L A)
