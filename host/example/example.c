@@ -142,19 +142,27 @@ static void show_equal_media(const char *a, const char *b)
     show_same(b, qz_media_equal(bytes(a), strlen(a), bytes(b), strlen(b)));
 }
 
-static void show_charset(const char *text)
+static void show_charset(const char *label, const char *text, QzCharset c)
 {
-    QzCharset c = qz_media_charset(bytes(text), strlen(text));
     if (c.number != 0) {
-        show_refusal(text, c.number, c.place);
+        show_refusal(label, c.number, c.place);
         return;
     }
-    printf("charset of %s: ", text);
+    printf("charset of %s: ", label);
     if (c.kind == QZ_STATED_CHARSET) {
         printf("%.*s%s\n", (int)c.length, text + c.start, c.quoted ? " in quotes" : "");
     } else {
         printf("%s\n", c.kind == QZ_ISO_8859_1 ? "ISO-8859-1" : "none");
     }
+}
+
+/* What is stated; and, for a caller that relies on the old default, the same with ISO-8859-1 for `text`. */
+static void show_charsets(const char *text)
+{
+    char assuming[96];
+    snprintf(assuming, sizeof assuming, "%s, assuming ISO-8859-1", text);
+    show_charset(text, text, qz_media_charset(bytes(text), strlen(text)));
+    show_charset(assuming, text, qz_media_charset_assuming_iso_8859_1(bytes(text), strlen(text)));
 }
 
 static void show_media_types(void)
@@ -167,10 +175,10 @@ static void show_media_types(void)
     show_equal_media("a/b;x=1;y=2", "a/b;y=2;x=\"1\"");
     show_equal_media("a/b;x=1;y=2", "a/b;x=1");
     show_equal_media("a/b", "a/b;");
-    show_charset("text/html;a=b;charset=\"utf-8\"");
-    show_charset("TEXT/html");
-    show_charset("image/gif;a=b");
-    show_charset("text/html;charset =x");
+    show_charsets("text/html;a=b;charset=\"utf-8\"");
+    show_charsets("TEXT/html");
+    show_charsets("image/gif;a=b");
+    show_charsets("text/html;charset =x");
 }
 
 static void show_part(const char *name, const char *text, QzPart p)

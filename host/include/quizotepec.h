@@ -287,19 +287,17 @@ enum {
 QzMedia qz_media_read(const uint8_t *s, size_t s_len);
 
 enum {
-    /* QzCharset.kind where number is 0: there is none. */
+    /* QzCharset.kind where number is 0: none is stated. */
     QZ_NO_CHARSET = 0,
-    /* It is the value of the parameter. */
-    QZ_STATED_CHARSET = 1,
-    /* It is that of type `text` without the parameter. */
-    QZ_ISO_8859_1 = 2
+    /* It is the value of the parameter `charset`. */
+    QZ_STATED_CHARSET = 1
 };
 
-/* The effective charset of a media type. */
+/* The charset of a media type. */
 typedef struct QzCharset {
     uint8_t number;
     size_t place;
-    /* QZ_NO_CHARSET, QZ_STATED_CHARSET or QZ_ISO_8859_1 */
+    /* QZ_NO_CHARSET, QZ_STATED_CHARSET or, where that is assumed, QZ_ISO_8859_1 */
     uint8_t kind;
     /* of a stated charset, without its quotes */
     size_t start;
@@ -311,8 +309,18 @@ typedef struct QzCharset {
  * after unquoting, the value of `charset` in any case. */
 QzSame qz_media_equal(const uint8_t *a, size_t a_len, const uint8_t *b, size_t b_len);
 
-/* The effective charset of a media type. */
+/* The effective charset of a media type: the value of its parameter `charset`, or none without it, for every type. */
 QzCharset qz_media_charset(const uint8_t *s, size_t s_len);
+
+enum {
+    /* QzCharset.kind by qz_media_charset_assuming_iso_8859_1 alone: type `text`, in any letter case, without the
+     * parameter. */
+    QZ_ISO_8859_1 = 2
+};
+
+/* As qz_media_charset, but type `text` without the parameter has ISO-8859-1: the default of RFC 2616 3.7.1, which RFC
+ * 7231 dropped. For callers that rely on it. */
+QzCharset qz_media_charset_assuming_iso_8859_1(const uint8_t *s, size_t s_len);
 
 /* Where a part stands in the input. */
 typedef struct QzSpan {
@@ -409,7 +417,7 @@ QzFed qz_pieces_feed(QzPieces pieces, const uint8_t *piece, size_t piece_len, si
 
 /* The version of this header; qz_library_version gives that of the library which is linked. */
 #define QZ_VERSION_MAJOR 0
-#define QZ_VERSION_MINOR 7
+#define QZ_VERSION_MINOR 8
 #define QZ_VERSION_PATCH 0
 
 /* The version of the library. */

@@ -233,12 +233,25 @@ static Answer of_QzMedia(QzMedia r, const Call *c)
     return answer(r.number, r.place, c->a.length, kept);
 }
 
-static Answer of_QzCharset(QzCharset r, const Call *c)
+/* `without` is the kind where none is stated. */
+static Answer charset_answer(QzCharset r, uint8_t without, const Call *c)
 {
     bool none = r.start == 0 && r.length == 0 && !r.quoted;
     bool stated = r.kind == QZ_STATED_CHARSET && is_value(r.start, r.length, r.quoted, c);
-    bool other = (r.kind == QZ_NO_CHARSET || r.kind == QZ_ISO_8859_1) && none;
+    bool other = r.kind == without && none;
     return answer(r.number, r.place, c->a.length, r.number == 0 ? stated || other : r.kind == 0 && none);
+}
+
+static Answer of_QzCharset(QzCharset r, const Call *c)
+{
+    return charset_answer(r, QZ_NO_CHARSET, c);
+}
+
+/* Where ISO-8859-1 is assumed of `text`. */
+static Answer of_assumed(QzCharset r, const Call *c)
+{
+    bool text = c->a.length >= 5 && strncasecmp((const char *)c->a.bytes, "text/", 5) == 0;
+    return charset_answer(r, text ? QZ_ISO_8859_1 : QZ_NO_CHARSET, c);
 }
 
 /* A part that begins at `from` or later, or is absent. */
@@ -391,6 +404,7 @@ static const char *const dates[] = {"Sun, 06 Nov 1994 08:49:37 GMT",
                                     NULL};
 static const char *const media_types[] = {"text/html; charset=ISO-8859-4",
                                           "TEXT/html ;\tCharset=\"utf\\-8\";q=\"\xff\"",
+                                          "Text/plain;q=1",
                                           "a/b;x=1;y=2;X=\"1\"",
                                           "a/b;a=1;b=1;c=1;d=1;e=1;f=1;g=1;h=1;i=1;j=1;k=1;l=1;m=1;n=1;o=1;p=1",
                                           "a/b;a=1;b=1;c=1;d=1;e=1;f=1;g=1;h=1;i=1;j=1;k=1;l=1;m=1;n=1;o=1;p=1;q=1",
@@ -426,7 +440,7 @@ static uint8_t *lent(Block block, const Call *c)
 #define NO(n) (1u << (n))
 #define MEDIA (NO(1) | NO(10) | NO(11) | NO(13))
 
-/* ROW(function, its arguments, its answer, samples of its inputs, the numbers that it may give) */
+/* ROW(function, its arguments, what its answer is, samples of its inputs, the numbers that it may give) */
 #define ENTRIES(ROW)                                                                                                 \
     ROW(qz_version_read, (A), QzVersion, versions, NO(1) | NO(2) | NO(13))                                           \
     ROW(qz_version_compare, (A, B), QzOrder, versions, NO(1) | NO(2) | NO(13))                                       \
@@ -446,6 +460,7 @@ static uint8_t *lent(Block block, const Call *c)
     ROW(qz_media_read, (A), QzMedia, media_types, MEDIA)                                                             \
     ROW(qz_media_equal, (A, B), QzSame, media_types, MEDIA)                                                          \
     ROW(qz_media_charset, (A), QzCharset, media_types, MEDIA)                                                        \
+    ROW(qz_media_charset_assuming_iso_8859_1, (A), assumed, media_types, MEDIA)                                      \
     ROW(qz_url_read, (A), QzUrl, urls, NO(1) | NO(2) | NO(13))                                                       \
     ROW(qz_url_equal, (A, B), QzSame, urls, NO(1) | NO(2) | NO(13))                                                  \
     ROW(qz_products_read, (A), QzProducts, products, NO(1) | NO(12) | NO(13))                                        \

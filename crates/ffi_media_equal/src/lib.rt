@@ -1,7 +1,7 @@
 // Media types compared, and their charset, for C and Rust. Nothing is decided here.
 ghost use mathlib.Core.Path.{_≡_};
 ghost use Rattle.grammar.specs.helpers.Judge.{header};
-ghost use Rattle.media_charset.specs.Charset.{charsets};
+ghost use Rattle.media_charset.specs.Charset.{effective-charsets, charsets-assuming-iso-8859-1};
 ghost use Rattle.media_charset.specs.Reading.{charset-verdict};
 ghost use Rattle.media_equal.specs.Reading.{equality as media-equality};
 ghost use Rattle.ffi.specs.Fields.{same-fields};
@@ -9,21 +9,18 @@ ghost use Rattle.ffi_media_equal.specs.Fields.{charset-read, charset-fie
 use ffi::QzSame;
 use media_charset::Charset;
 
-// QzCharset.kind where number is 0: there is none.
+// QzCharset.kind where number is 0: none is stated.
 pub const NO_CHARSET: u8 = 0;
 
-// It is the value of the parameter.
+// It is the value of the parameter `charset`.
 pub const STATED_CHARSET: u8 = 1;
 
-// It is that of type `text` without the parameter.
-pub const ISO_8859_1: u8 = 2;
-
-// The effective charset of a media type.
+// The charset of a media type.
 #[repr(C)]
 pub struct QzCharset {
     pub number: u8,
     pub place: usize,
-    // QZ_NO_CHARSET, QZ_STATED_CHARSET or QZ_ISO_8859_1
+    // QZ_NO_CHARSET, QZ_STATED_CHARSET or, where that is assumed, QZ_ISO_8859_1
     pub kind: u8,
     // of a stated charset, without its quotes
     pub start: usize,
@@ -40,12 +37,24 @@ pub extern "C" fn qz_media_equal(a: &[u8], b: &[u8]) -> QzSame
     ffi::same_of(media_equal::equal(a, b))
 }
 
-// The effective charset of a media type.
+// The effective charset of a media type: the value of its parameter `charset`, or none without it, for every type.
 #[no_mangle]
 pub extern "C" fn qz_media_charset(s: &[u8]) -> QzCharset
-    ensures { λ r. ⌜ r ≡ charset-fields (header charsets (now (s .entry))) ⌝ }
+    ensures { λ r. ⌜ r ≡ charset-fields (header effective-charsets (now (s .entry))) ⌝ }
 {
     charset_of(media_charset::effective_charset(s))
+}
+
+// QzCharset.kind by qz_media_charset_assuming_iso_8859_1 alone: type `text`, in any letter case, without the parameter.
+pub const ISO_8859_1: u8 = 2;
+
+// As qz_media_charset, but type `text` without the parameter has ISO-8859-1: the default of RFC 2616 3.7.1, which
+// RFC 7231 dropped. For callers that rely on it.
+#[no_mangle]
+pub extern "C" fn qz_media_charset_assuming_iso_8859_1(s: &[u8]) -> QzCharset
+    ensures { λ r. ⌜ r ≡ charset-fields (header charsets-assuming-iso-8859-1 (now (s .entry))) ⌝ }
+{
+    charset_of(media_charset::charset_assuming_iso_8859_1(s))
 }
 
 fn charset_of(c: Charset) -> QzCharset

@@ -1,4 +1,4 @@
--- The effective charset, by what the media type means.
+-- The charset, by what the media type means.
 use Prim.Native.Nat.{ℕ}
 use native.Mathlib.Omega.{arith}
 use mathlib.Core.Path.{_≡_, refl, sym, ap, _∙_}
@@ -12,13 +12,13 @@ use Rattle.grammar.proofs.Values.{answered-alike}
 use Rattle.octets.specs.Case.{alike}
 use Rattle.octets.proofs.Alike.{alike-swap}
 use Rattle.media.specs.declared.Parameter.{Parameter}
-use Rattle.media.specs.Grammar.{Media, media, part-at}
+use Rattle.media.specs.Grammar.{Media, media, rules, part-at}
 use Rattle.media.proofs.Parts.{one-way}
 use Rattle.media_equal.specs.Meaning.{unquoted, charset-name, Setting, Meaning, meanings, same-setting, has-setting}
 use Rattle.media_charset.specs.Charset.{Effective, stated, latin-1, no-charset, text-type, default-charset, charsets}
-use Rattle.media_charset.specs.Charset.{charset-is, NoCharset, charset-text, in-bytes, effective-charset, value-or, meant-charset}
+use Rattle.media_charset.specs.Charset.{charset-is, NoCharset, charset-text, in-bytes, charset-in-bytes, value-or, meant-charset}
 use Rattle.media_equal.specs.Places.{setting-at, settings-at, meaning-at}
-use Rattle.media_charset.specs.Places.{stated-at, effective-at}
+use Rattle.media_charset.specs.Places.{stated-at}
 use Rattle.media_equal.proofs.Agreeing.{text-self, or-true}
 use Rattle.media_equal.proofs.Places.{says}
 use Rattle.media_charset.proofs.Places.{effect}
@@ -46,26 +46,22 @@ module _ (s : List ℕ) where
       go false e k = k
 
   -- what is stated is the value of `charset`
-  pub one-stated : (type : List ℕ) (ps : List Parameter) (a n : ℕ) (q : Bool) → stated-at s (default-charset type) ps ≡ stated a n q
-      → has-setting (charset-is (unquoted q (part-at s a n))) (settings-at s ps) ≡ true
-  one-stated type [] a n q e = absurd (go (alike type text-type) e)
+  pub one-stated : (other : Effective) (ps : List Parameter) (i n : ℕ) (q : Bool) → (other ≡ stated i n q → ⊥) → stated-at s other ps ≡ stated i n q
+      → has-setting (charset-is (unquoted q (part-at s i n))) (settings-at s ps) ≡ true
+  one-stated other [] i n q h e = absurd (h e)
+  one-stated other (p ∷ ps) i n q h e = go (alike (setting-at s p .name) charset-name) refl e (one-stated other ps i n q h)
     where
-      go : (t : Bool) → cond t latin-1 no-charset ≡ stated a n q → ⊥
-      go true f = let z : _≡_ {A = ℕ} 0 1 = cc in omega arith
-      go false f = let z : _≡_ {A = ℕ} 0 1 = cc in omega arith
-  one-stated type (p ∷ ps) a n q e = go (alike (setting-at s p .name) charset-name) refl e (one-stated type ps a n q)
-    where
-      here : alike (setting-at s p .name) charset-name ≡ true → p .«value_start» ≡ a → p .«value_length» ≡ n → p .quoted ≡ q
-          → same-setting (charset-is (unquoted q (part-at s a n))) (setting-at s p) ≡ true
+      here : alike (setting-at s p .name) charset-name ≡ true → p .«value_start» ≡ i → p .«value_length» ≡ n → p .quoted ≡ q
+          → same-setting (charset-is (unquoted q (part-at s i n))) (setting-at s p) ≡ true
       here f x y z = rw (sym x, sym y, sym z) (named (setting-at s p) f)
 
       go : (t : Bool) → alike (setting-at s p .name) charset-name ≡ t
-          → cond t (stated (p .«value_start») (p .«value_length») (p .quoted)) (stated-at s (default-charset type) ps) ≡ stated a n q
-          → (stated-at s (default-charset type) ps ≡ stated a n q → has-setting (charset-is (unquoted q (part-at s a n))) (settings-at s ps) ≡ true)
-          → has-setting (charset-is (unquoted q (part-at s a n))) (settings-at s (p ∷ ps)) ≡ true
+          → cond t (stated (p .«value_start») (p .«value_length») (p .quoted)) (stated-at s other ps) ≡ stated i n q
+          → (stated-at s other ps ≡ stated i n q → has-setting (charset-is (unquoted q (part-at s i n))) (settings-at s ps) ≡ true)
+          → has-setting (charset-is (unquoted q (part-at s i n))) (settings-at s (p ∷ ps)) ≡ true
       go true f g k = rw (here f (cc) (cc) (cc))
       go false f g k =
-          let x = charset-is (unquoted q (part-at s a n)) in
+          let x = charset-is (unquoted q (part-at s i n)) in
           or-true (same-setting x (setting-at s p)) (has-setting x (settings-at s ps)) (k g)
 
   -- where there is a `charset`, it is stated
@@ -96,64 +92,74 @@ module _ (s : List ℕ) where
       go true k = refl
       go false k = k
 
-  -- the default stands in no text
-  pub default-text : (type : List ℕ) → charset-text s (default-charset type) ≡ charset-text [] (default-charset type)
-  default-text type = go (alike type text-type)
-    where
-      go : (t : Bool) → charset-text s (cond t latin-1 no-charset) ≡ charset-text [] (cond t latin-1 no-charset)
-      go true = refl
-      go false = refl
+-- the default stands in no text
+default-text : (s : List ℕ) (a : Bool) (type : List ℕ) → charset-text s (default-charset a type) ≡ charset-text [] (default-charset a type)
+default-text s false type = refl
+default-text s true type = go (alike type text-type)
+  where
+    go : (t : Bool) → charset-text s (cond t latin-1 no-charset) ≡ charset-text [] (cond t latin-1 no-charset)
+    go true = refl
+    go false = refl
+
+pub default-unstated : (a : Bool) (type : List ℕ) (i n : ℕ) (q : Bool) → default-charset a type ≡ stated i n q → ⊥
+default-unstated false type i n q e = let z : _≡_ {A = ℕ} 0 1 = cc in omega arith
+default-unstated true type i n q e = go (alike type text-type) e
+  where
+    go : (t : Bool) → cond t latin-1 no-charset ≡ stated i n q → ⊥
+    go true f = let z : _≡_ {A = ℕ} 0 1 = cc in omega arith
+    go false f = let z : _≡_ {A = ℕ} 0 1 = cc in omega arith
 
 -- ## Of a text
 
-value-is : {A : Type 0} {x y : A} → value x ≡ value y → x ≡ y
+pub value-is : {A : Type 0} {x y : A} → value x ≡ value y → x ≡ y
 value-is f = cc
 
 module _ (s : List ℕ) (m : Meaning) (e : header meanings s ≡ value m) where
-  found : (x : Media) × (header charsets s ≡ value (effective-at s (x .names) (x .table))) × (m ≡ meaning-at s (x .names) (x .table))
+  found : (x : Media) × (header rules s ≡ value x) × (m ≡ meaning-at s (x .names) (x .table))
   found =
       let w = answered-alike meanings media tt tt one-way s (value m) e in
-      (media (w .0), effect s (media (w .0)) (w .3), value-is (sym e ∙ says s (media (w .0)) (w .3) .means))
+      (media (w .0), w .3, value-is (sym e ∙ says s (media (w .0)) (w .3) .means))
 
-  pub default-effect : NoCharset m → header charsets s ≡ value (default-charset (m .type))
-  default-effect f =
-      let x = found in
-      x .1
-      ∙ ap value (none-stated s _ (x .0 .table) (λ v. ap (λ (k : Meaning). has-setting (charset-is v) (k .settings)) (sym (x .2)) ∙ f v)
-      ∙ ap (λ (k : Meaning). default-charset (k .type)) (sym (x .2)))
+  module _ (a : Bool) where
+    pub default-effect : NoCharset m → header (charsets a) s ≡ value (default-charset a (m .type))
+    default-effect f =
+        let x = found in
+        effect s a (x .0) (x .1)
+        ∙ ap value (none-stated s _ (x .0 .table) (λ v. ap (λ (k : Meaning). has-setting (charset-is v) (k .settings)) (sym (x .2)) ∙ f v)
+        ∙ ap (λ (k : Meaning). default-charset a (k .type)) (sym (x .2)))
 
-  pub value-effect : (a n : ℕ) (q : Bool) → header charsets s ≡ value (stated a n q)
-      → has-setting (charset-is (unquoted q (part-at s a n))) (m .settings) ≡ true
-  value-effect a n q f =
-      let x = found in
-      ap (λ (k : Meaning). has-setting (charset-is (unquoted q (part-at s a n))) (k .settings)) (x .2)
-      ∙ one-stated s (part-at s (x .0 .names .«type_start») (x .0 .names .«type_length»)) (x .0 .table) a n q (value-is (sym (x .1) ∙ f))
+    pub value-effect : (i n : ℕ) (q : Bool) → header (charsets a) s ≡ value (stated i n q)
+        → has-setting (charset-is (unquoted q (part-at s i n))) (m .settings) ≡ true
+    value-effect i n q f =
+        let x = found in
+        ap (λ (k : Meaning). has-setting (charset-is (unquoted q (part-at s i n))) (k .settings)) (x .2)
+        ∙ one-stated s _ (x .0 .table) i n q (default-unstated a _ i n q) (value-is (sym (effect s a (x .0) (x .1)) ∙ f))
 
-  pub stated-effect : (v : List ℕ) → has-setting (charset-is v) (m .settings) ≡ true
-      → (a : ℕ) × (n : ℕ) × (q : Bool) × (header charsets s ≡ value (stated a n q))
-  stated-effect v f =
-      let x = found in
-      let y = some-stated s _ (x .0 .table) v (ap (λ (k : Meaning). has-setting (charset-is v) (k .settings)) (sym (x .2)) ∙ f) in
-      (y .0, y .1, y .2, x .1 ∙ ap value (y .3))
+    pub stated-effect : (v : List ℕ) → has-setting (charset-is v) (m .settings) ≡ true
+        → (i : ℕ) × (n : ℕ) × (q : Bool) × (header (charsets a) s ≡ value (stated i n q))
+    stated-effect v f =
+        let x = found in
+        let y = some-stated s _ (x .0 .table) v (ap (λ (k : Meaning). has-setting (charset-is v) (k .settings)) (sym (x .2)) ∙ f) in
+        (y .0, y .1, y .2, effect s a (x .0) (x .1) ∙ ap value (y .3))
 
-  -- in bytes
-  pub meant-effect : effective-charset s ≡ value (meant-charset m)
-  meant-effect =
-      let x = found in
-      let type = part-at s (x .0 .names .«type_start») (x .0 .names .«type_length») in
-      ap (in-bytes s) (x .1)
-      ∙ ap value (stated-text s _ (x .0 .table)
-      ∙ ap (λ (o : Option (List ℕ)). value-or o (settings-at s (x .0 .table))) (default-text s type)
-      ∙ ap meant-charset (sym (x .2)))
+    -- in bytes
+    pub meant-effect : charset-in-bytes (charsets a) s ≡ value (meant-charset a m)
+    meant-effect =
+        let x = found in
+        let type = part-at s (x .0 .names .«type_start») (x .0 .names .«type_length») in
+        ap (in-bytes s) (effect s a (x .0) (x .1))
+        ∙ ap value (stated-text s _ (x .0 .table)
+        ∙ ap (λ (o : Option (List ℕ)). value-or o (settings-at s (x .0 .table))) (default-text s a type)
+        ∙ ap (meant-charset a) (sym (x .2)))
 
-  pub text-effect : alike (m .type) text-type ≡ true → NoCharset m → effective-charset s ≡ value (some (bytes "ISO-8859-1"))
-  text-effect a f = ap (in-bytes s) (default-effect f) ∙ rw a
+    pub bytes-effect : (v : List ℕ) → has-setting (charset-is v) (m .settings) ≡ true
+        → (w : List ℕ) × (charset-in-bytes (charsets a) s ≡ value (some w)) × (has-setting (charset-is w) (m .settings) ≡ true)
+    bytes-effect v f =
+        let y = stated-effect v f in
+        (unquoted (y .2) (part-at s (y .0) (y .1)), ap (in-bytes s) (y .3), value-effect (y .0) (y .1) (y .2) (y .3))
 
-  pub other-effect : alike (m .type) text-type ≡ false → NoCharset m → effective-charset s ≡ value none
-  other-effect a f = ap (in-bytes s) (default-effect f) ∙ rw a
+  pub text-effect : alike (m .type) text-type ≡ true → NoCharset m → charset-in-bytes (charsets true) s ≡ value (some (bytes "ISO-8859-1"))
+  text-effect t f = ap (in-bytes s) (default-effect true f) ∙ rw t
 
-  pub bytes-effect : (v : List ℕ) → has-setting (charset-is v) (m .settings) ≡ true
-      → (w : List ℕ) × (effective-charset s ≡ value (some w)) × (has-setting (charset-is w) (m .settings) ≡ true)
-  bytes-effect v f =
-      let y = stated-effect v f in
-      (unquoted (y .2) (part-at s (y .0) (y .1)), ap (in-bytes s) (y .3), value-effect (y .0) (y .1) (y .2) (y .3))
+  pub other-effect : alike (m .type) text-type ≡ false → NoCharset m → charset-in-bytes (charsets true) s ≡ value none
+  other-effect t f = ap (in-bytes s) (default-effect true f) ∙ rw t

@@ -1,13 +1,17 @@
 -- The first n entries of a table, one at a time: the charset.
 use Prim.Native.Nat.{ℕ, _+_, _≤_, _<_}
-use mathlib.Core.Path.{_≡_, sym, _∙_}
-use mathlib.Core.Bool.{Bool, true, false}
-use mathlib.Core.List.{List}
-use lib.ListN.{take, drop, getD}
+use mathlib.Core.Path.{_≡_, refl, sym, ap, _∙_}
+use mathlib.Core.Bool.{Bool, true, false, not, true≢false}
+use mathlib.Core.List.{List, []}
+use lib.ListN.{length, take, drop, getD}
+use Rattle.grammar.specs.Reading.{Verdict, value, refused}
+use Rattle.grammar.specs.helpers.Judge.{header}
 use Rattle.octets.specs.Case.{alike}
+use Rattle.octets.proofs.Entries.{padded-length}
 use Rattle.media.specs.declared.Parameter.{Parameter}
-use Rattle.media.specs.Grammar.{part-at}
-use Rattle.media.specs.Reading.{unused}
+use Rattle.media.specs.declared.Reading.{Reading}
+use Rattle.media.specs.Grammar.{Media, rules, parameter-limit, part-at}
+use Rattle.media.specs.Reading.{unused, table-of, Answered}
 use Rattle.media.specs.helpers.Places.{PlacedTable}
 use Rattle.media.proofs.Tables.{none-left, first}
 use Rattle.media_equal.specs.Meaning.{charset-name}
@@ -35,10 +39,26 @@ module _ {s : List ℕ} {n : ℕ} {u : List Parameter} (w : PlacedTable s n u) (
       pub stated-behind : t ≡ false → stated-at s other behind ≡ stated-at s other left
       stated-behind f = sym (rw (first w i h, ← d, sym e ∙ f))
 
--- without the parameter
-module _ (t : Bool) (name type : List ℕ) (d : name ≡ type) (e : t ≡ alike name text-type) where
-  pub text-default : t ≡ true → latin-1 ≡ default-charset type
-  text-default f = sym (rw (← d, sym e ∙ f))
+-- ## Without the parameter
 
-  pub other-default : t ≡ false → no-charset ≡ default-charset type
-  other-default f = sym (rw (← d, sym e ∙ f))
+pub not-assumed : (a : Bool) (type : List ℕ) → not a ≡ true → no-charset ≡ default-charset a type
+not-assumed true type h = absurd (true≢false (sym h))
+not-assumed false type h = refl
+
+module _ (t : Bool) (type : List ℕ) (e : t ≡ alike type text-type) where
+  pub text-default : (a : Bool) → not a ≡ false → t ≡ true → latin-1 ≡ default-charset a type
+  text-default true h f = sym (rw (sym e ∙ f))
+  text-default false h f = absurd (true≢false h)
+
+  pub other-default : (a : Bool) → not a ≡ false → t ≡ false → no-charset ≡ default-charset a type
+  other-default true h f = sym (rw (sym e ∙ f))
+  other-default false h f = refl
+
+-- ## The answer of `read`
+
+table-length : (v : Verdict Media) → length (table-of v) ≡ parameter-limit
+table-length (value m) = padded-length unused parameter-limit (m .table)
+table-length (refused n p) = padded-length unused parameter-limit []
+
+pub full-table : (s : List ℕ) (r : Reading) → Answered s r → length (r .parameters) ≡ parameter-limit
+full-table s r e = ap length (e .1) ∙ table-length (header rules s)

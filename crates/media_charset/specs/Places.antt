@@ -1,6 +1,6 @@
--- The effective charset of a media type, by the places that reading gives.
+-- The charset of a media type, by the places that reading gives.
 use Prim.Native.Nat.{ℕ}
-use mathlib.Core.Bool.{cond}
+use mathlib.Core.Bool.{Bool, cond}
 use mathlib.Core.List.{List, [], _∷_}
 use Rattle.octets.specs.Case.{alike}
 use Rattle.media.specs.declared.MediaType.{MediaType}
@@ -16,5 +16,5 @@ module _ (s : List ℕ) where
       cond (alike (part-at s (p .start) (p .length)) charset-name) (stated (p .«value_start») (p .«value_length») (p .quoted))
       (stated-at other ps)
 
-  abbrev pub effective-at : MediaType → List Parameter → Effective
-  effective-at m ps = stated-at (default-charset (part-at s (m .«type_start») (m .«type_length»))) ps
+  abbrev pub charset-at : (assumed : Bool) → MediaType → List Parameter → Effective
+  charset-at assumed m ps = stated-at (default-charset assumed (part-at s (m .«type_start») (m .«type_length»))) ps

@@ -5,7 +5,7 @@ use Rattle.media_charset.specs.declared.Charset.{Charset}
 use Rattle.media_charset.specs.declared.Charset.the-variants as C
 use Rattle.media_charset.specs.Charset.{Effective, stated, latin-1, no-charset}
 
--- the effective charset; `charset-text` gives each in bytes
+-- the charset; `charset-text` gives each in bytes
 abbrev pub charset-verdict : Charset → Verdict Effective
 charset-verdict (C.Stated a n q) = G.value (stated a n q)
 charset-verdict C.Latin1 = G.value latin-1

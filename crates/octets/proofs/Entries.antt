@@ -10,6 +10,11 @@ use Rattle.octets.specs.Tables.{padded}
 -- ## Filled
 
 module _ {A : Type 0} (unused : A) where
+  pub padded-length : (n : ℕ) (xs : List A) → length (padded unused n xs) ≡ n
+  padded-length zero xs = refl
+  padded-length (suc n) [] = ap suc (padded-length n [])
+  padded-length (suc n) (x ∷ xs) = ap suc (padded-length n xs)
+
   -- the used entries are the first
   pub padded-take : (n : ℕ) (xs : List A) → length xs ≤ n → take (length xs) (padded unused n xs) ≡ xs
   padded-take n [] h = refl

@@ -81,6 +81,18 @@ const KINDS: &[Kind] = &[
         ]
     ),
     kind!(
+        "charset",
+        quizotepec::media_charset,
+        independent::media::effective_charset,
+        [b"text/html; charset=ISO-8859-4", b"text/html;q=0.5", b"image/gif", b"text/html; charset="]
+    ),
+    kind!(
+        "charset assumed",
+        quizotepec::media_charset_assuming_iso_8859_1,
+        independent::media::charset_assuming_iso_8859_1,
+        [b"text/html; charset=ISO-8859-4", b"text/html;q=0.5", b"image/gif", b"text/html; charset="]
+    ),
+    kind!(
         "URL",
         quizotepec::url_read,
         independent::url::read,

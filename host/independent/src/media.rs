@@ -9,11 +9,10 @@ use Grammar::{Exact, OneOf, Seq};
 
 pub const PARAMETER_LIMIT: usize = 16;
 
-/// What type `text` without a charset has (RFC 2616 3.7.1).
-pub const TEXT_CHARSET: &[u8] = b"ISO-8859-1";
-
 const TEXT: &[u8] = b"text";
 const CHARSET: &[u8] = b"charset";
+/// The name of `Charset::TextDefault` (RFC 2616 3.7.1).
+const TEXT_CHARSET: &[u8] = b"ISO-8859-1";
 
 const TYPE: Name = "type";
 const SUBTYPE: Name = "subtype";
@@ -39,13 +38,22 @@ pub struct MediaType {
 #[derive(Clone, Copy, Debug, PartialEq, Eq, Hash)]
 pub enum Charset {
     /// The value of the charset parameter, as in `Parameter`.
-    Given {
-        value: Span,
-        quoted: bool,
-    },
-    /// `TEXT_CHARSET`.
+    Given { value: Span, quoted: bool },
+    /// What `charset_assuming_iso_8859_1` assumes for type `text`.
     TextDefault,
+    /// None stated.
     Absent,
+}
+
+impl Charset {
+    /// The name in bytes; a stated one stands in the input that was read.
+    pub fn name<'a>(&self, input: &'a [u8]) -> Option<&'a [u8]> {
+        match self {
+            Charset::Given { value, .. } => Some(value.of(input)),
+            Charset::TextDefault => Some(TEXT_CHARSET),
+            Charset::Absent => None,
+        }
+    }
 }
 
 pub fn grammar() -> &'static Grammar {
@@ -117,12 +125,25 @@ pub fn equal(first: &[u8], second: &[u8]) -> Result<bool, Refused> {
     Ok(meaning(&one, first) == meaning(&other, second))
 }
 
-pub fn effective_charset(input: &[u8]) -> Result<Charset, Refusal> {
-    let media = read(input)?;
+fn stated_charset(media: &MediaType, input: &[u8]) -> Charset {
     let is_charset = |parameter: &&Parameter| parameter.attribute.of(input).eq_ignore_ascii_case(CHARSET);
-    Ok(match media.parameters.iter().find(is_charset) {
+    match media.parameters.iter().find(is_charset) {
         Some(parameter) => Charset::Given { value: parameter.value, quoted: parameter.quoted },
-        None if media.main.of(input).eq_ignore_ascii_case(TEXT) => Charset::TextDefault,
         None => Charset::Absent,
+    }
+}
+
+/// What is stated, of every type: the later HTTP standard has no default (request v).
+pub fn effective_charset(input: &[u8]) -> Result<Charset, Refusal> {
+    Ok(stated_charset(&read(input)?, input))
+}
+
+/// As document 01 had it, for callers that rely on the old default of type `text` (request v).
+pub fn charset_assuming_iso_8859_1(input: &[u8]) -> Result<Charset, Refusal> {
+    let media = read(input)?;
+    let is_text = media.main.of(input).eq_ignore_ascii_case(TEXT);
+    Ok(match stated_charset(&media, input) {
+        Charset::Absent if is_text => Charset::TextDefault,
+        stated => stated,
     })
 }

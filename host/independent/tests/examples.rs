@@ -387,8 +387,8 @@ fn media_types() {
     }
 }
 
-fn with_parameters(count: usize) -> String {
-    (0..count).fold("a/b".to_string(), |text, index| format!("{text};p{index}=v"))
+fn with_parameters(media_type: &str, count: usize) -> String {
+    (0..count).fold(media_type.to_string(), |text, index| format!("{text};p{index}=v"))
 }
 
 #[test]
@@ -398,7 +398,7 @@ fn media_type_limits() {
     refused(media::read(b"a/b;x=1;X"), 1, 9);
     refused(media::read(b"a/b;x=1;X ="), 1, 9);
     refused(media::read(b"a/b;x=1;xy=2;x=\x00"), 11, 14);
-    let sixteen = with_parameters(PARAMETER_LIMIT);
+    let sixteen = with_parameters("a/b", PARAMETER_LIMIT);
     assert_eq!(media::read(sixteen.as_bytes()).map(|read| read.parameters.len()), Ok(PARAMETER_LIMIT));
     for tail in ["p0=v", "q=v", "q", "q=\x01"] {
         refused(media::read(format!("{sixteen}; {tail}").as_bytes()), 10, sixteen.len() + 2);
@@ -421,14 +421,155 @@ fn media_type_equality() {
     assert_eq!(equal("a/b", "a"), Err(which(Which::Second, 1, 1)));
 }
 
+type CharsetAnswer = Result<Charset, Refusal>;
+
+const NONE_STATED: CharsetAnswer = Ok(Charset::Absent);
+const ASSUMED: CharsetAnswer = Ok(Charset::TextDefault);
+
+/// What `effective_charset` answers, then what the call does that assumes ISO-8859-1.
+fn charsets(text: &str, plain: CharsetAnswer, assuming: CharsetAnswer) {
+    assert_eq!(media::effective_charset(text.as_bytes()), plain, "{text}");
+    assert_eq!(media::charset_assuming_iso_8859_1(text.as_bytes()), assuming, "{text}");
+}
+
+/// The answer of both calls.
+fn one_charset(text: &str, answer: CharsetAnswer) {
+    charsets(text, answer, answer);
+}
+
+/// The type in any letter case; an attribute that is only like `charset`, or a value, does not state one.
 #[test]
-fn effective_charsets() {
-    assert_eq!(media::effective_charset(b"TEXT/plain"), Ok(Charset::TextDefault));
-    assert_eq!(media::effective_charset(b"image/gif;a=b"), Ok(Charset::Absent));
+fn text_without_a_charset() {
+    for text in [
+        "text/html",
+        "TEXT/plain",
+        "tExT/x",
+        "text/charset",
+        "text/html;q=1",
+        "text/html;charsets=utf-8",
+        "text/html;charset-=utf-8",
+        "text/html;charse=utf-8",
+        "text/html;xcharset=utf-8",
+        "text/html;x-charset=utf-8",
+        "text/html;harset=utf-8",
+        "text/html;a=charset",
+        "text/html;a=charset;b=utf-8",
+        "text/html;a=\"charset\"",
+        "text/html;a=\";charset=utf-8\"",
+    ] {
+        charsets(text, NONE_STATED, ASSUMED);
+    }
+}
+
+#[test]
+fn other_types_without_a_charset() {
+    for text in [
+        "application/json",
+        "image/gif;a=b",
+        "image/gif;charsets=utf-8",
+        "image/gif;a=charset",
+        "texts/plain",
+        "text-/plain",
+        "tex/plain",
+        "ext/plain",
+        "x-text/plain",
+        "xtext/plain",
+        "image/text",
+        "image/gif;text=text",
+        "*/*",
+    ] {
+        one_charset(text, NONE_STATED);
+    }
+}
+
+#[test]
+fn stated_charsets() {
     let given = |start, length, quoted| Ok(Charset::Given { value: span(start, length), quoted });
-    assert_eq!(media::effective_charset(b"image/gif;CharSet=x"), given(18, 1, false));
-    assert_eq!(media::effective_charset(b"text/plain;a=b;charset=\"\""), given(24, 0, true));
-    refused(media::effective_charset(b"text"), 1, 4);
+    one_charset("TEXT/plain;charset=utf-8", given(19, 5, false));
+    one_charset("text/html;charset=\"\"", given(19, 0, true));
+    one_charset("text/plain;a=b;charset=\"\"", given(24, 0, true));
+    one_charset("text/html;CHARSET=iso-8859-1;q=1", given(18, 10, false));
+    one_charset("text/html \t; charset=\"utf\\-8\" ;q=1", given(22, 6, true));
+    one_charset("text/html;xcharset=a;charset=b", given(29, 1, false));
+    one_charset("text/html;charsets=a;charset=b", given(29, 1, false));
+    one_charset("text/html;charset=charset", given(18, 7, false));
+    one_charset("image/gif;CharSet=x", given(18, 1, false));
+    one_charset("texts/html;charset=x", given(19, 1, false));
+    let last = with_parameters("text/html", PARAMETER_LIMIT - 1) + ";charset=utf-8";
+    one_charset(&last, given(98, 5, false));
+}
+
+/// The names by both calls, in the order of `charsets`.
+fn charset_names(text: &str, plain: Option<&str>, assuming: Option<&str>) {
+    let input = text.as_bytes();
+    let check = |answer: CharsetAnswer, name: Option<&str>| {
+        let named = answer.map(|charset| charset.name(input));
+        assert_eq!(named, Ok(name.map(str::as_bytes)), "{text}");
+    };
+    check(media::effective_charset(input), plain);
+    check(media::charset_assuming_iso_8859_1(input), assuming);
+}
+
+#[test]
+fn names_of_charsets_not_stated() {
+    for text in ["text/html", "TEXT/plain;q=1", "text/html;charsets=utf-8", "text/html;a=\"charset\""] {
+        charset_names(text, None, Some("ISO-8859-1"));
+    }
+    for text in ["application/json", "image/gif;a=b", "texts/plain", "image/text"] {
+        charset_names(text, None, None);
+    }
+}
+
+/// Letter case and pairs as sent.
+#[test]
+fn names_of_stated_charsets() {
+    for (text, name) in [
+        ("TEXT/plain;charset=utf-8", "utf-8"),
+        ("text/html;charset=\"utf-8\"", "utf-8"),
+        ("text/html;charset=\"utf\\-8\"", "utf\\-8"),
+        ("text/html;charset=\"\"", ""),
+        ("text/html;charset=\"\\\"\"", "\\\""),
+        ("text/html;charset=\" é\t\"", " é\t"),
+        ("text/html;CHARSET=iso-8859-1;q=1", "iso-8859-1"),
+        ("text/html;a=b;charset=\"UTF-8\" ; c=d", "UTF-8"),
+        ("text/html;charset=charset", "charset"),
+        ("image/gif;CharSet=x", "x"),
+    ] {
+        charset_names(text, Some(name), Some(name));
+    }
+}
+
+#[test]
+fn refused_charsets() {
+    let one_refusal = |text: &str, number, place| one_charset(text, Err(Refusal { number, place }));
+    for (text, place) in [
+        ("", 0),
+        ("text", 4),
+        ("text/", 5),
+        ("text /html", 4),
+        ("text/html;", 10),
+        ("text/html;charset", 17),
+        ("text/html;charset=", 18),
+        ("text/html;charset =x", 17),
+        ("text/html;charset=\"x", 20),
+        ("text/html;charset=utf-8 ", 24),
+        ("text/html;charset=utf 8", 22),
+        ("image/gif;charset=x,", 19),
+    ] {
+        one_refusal(text, 1, place);
+    }
+    one_refusal("text/html;charset=a;Charset=b", 11, 27);
+    one_refusal("text/html;charset=a;CHARSET=a", 11, 27);
+    one_refusal("image/gif;charset=a;a=b;charset=", 11, 31);
+    one_refusal("text/html;a=b;A=c;charset=d", 11, 15);
+    for tail in ["q=1", "charset=utf-8", "charset"] {
+        one_refusal(&format!("{};{tail}", with_parameters("text/html", PARAMETER_LIMIT)), 10, 96);
+    }
+    let long = |count, tail| format!("text/{}{tail}", "h".repeat(count));
+    charsets(&long(8_187, ""), NONE_STATED, ASSUMED);
+    one_refusal(&long(8_188, ""), 13, 8_192);
+    one_refusal(&long(8_192, ";charset=x"), 13, 8_192);
+    one_refusal(&"t".repeat(8_193), 13, 8_192);
 }
 
 #[test]

@@ -56,7 +56,9 @@ pub use dates::{
 pub use etag::{etag_read, etag_strong_match, etag_weak_match, EntityTag};
 pub use language::{language_equal, language_read, LanguageTag};
 pub use library::{library_version, LibraryVersion};
-pub use media::{media_charset, media_equal, media_read, Charset, MediaType, Parameter};
+pub use media::{
+    media_charset, media_charset_assuming_iso_8859_1, media_equal, media_read, Charset, MediaType, Parameter,
+};
 pub use numbers::{delta_read, qvalue_read, qvalue_write, Seconds};
 pub use pieces::{Fed, Pieces};
 pub use products::{products_read, Products};

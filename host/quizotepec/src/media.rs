@@ -80,7 +80,7 @@ impl MediaType {
     }
 }
 
-/// The effective charset of a media type.
+/// The charset of a media type.
 #[derive(Clone, Copy, Debug, PartialEq, Eq, Hash)]
 pub enum Charset {
     /// The value of the parameter `charset`.
@@ -90,9 +90,9 @@ pub enum Charset {
         /// Whether the value stands in quotes.
         quoted: bool,
     },
-    /// ISO-8859-1, which type `text` has without that parameter.
+    /// ISO-8859-1, for type `text` without that parameter: by [`media_charset_assuming_iso_8859_1`] alone.
     Latin1,
-    /// Another type without it has none.
+    /// None is stated.
     NotStated,
 }
 
@@ -100,10 +100,13 @@ impl Charset {
     /// The charset's name, if there is one: pairs as sent in the value that was read, or `ISO-8859-1`.
     ///
     /// ```
-    /// let name = |value| quizotepec::media_charset(value).unwrap().name_in(value);
-    /// assert_eq!(name(b"text/html;charset=\"utf-8\""), Some(&b"utf-8"[..]));
-    /// assert_eq!(name(b"text/html"), Some(&b"ISO-8859-1"[..]));
-    /// assert_eq!(name(b"image/gif"), None);
+    /// use quizotepec::{media_charset, media_charset_assuming_iso_8859_1};
+    /// let value = b"text/html;charset=\"utf-8\"";
+    /// assert_eq!(media_charset(value).unwrap().name_in(value), Some(&b"utf-8"[..]));
+    /// let value = b"text/html";
+    /// assert_eq!(media_charset(value).unwrap().name_in(value), None);
+    /// let assumed = media_charset_assuming_iso_8859_1(value).unwrap();
+    /// assert_eq!(assumed.name_in(value), Some(&b"ISO-8859-1"[..]));
     /// ```
     pub fn name_in<'a>(&self, value: &'a [u8]) -> Option<&'a [u8]> {
         match self {
@@ -162,18 +165,7 @@ pub fn media_equal(first: &[u8], second: &[u8]) -> Result<bool, Refused> {
     same(unsafe { raw::qz_media_equal(first.as_ptr(), first.len(), second.as_ptr(), second.len()) })
 }
 
-/// Reads a media type and gives its effective charset.
-///
-/// ```
-/// use quizotepec::{Charset, Span};
-/// assert_eq!(quizotepec::media_charset(b"text/html"), Ok(Charset::Latin1));
-/// assert_eq!(quizotepec::media_charset(b"image/gif"), Ok(Charset::NotStated));
-/// let value = Span { start: 12, length: 5 };
-/// assert_eq!(quizotepec::media_charset(b"a/b;charset=utf-8"), Ok(Charset::Stated { value, quoted: false }));
-/// ```
-pub fn media_charset(value: &[u8]) -> Result<Charset, Refusal> {
-    // SAFETY: the pointer is valid for reads of the length.
-    let c = unsafe { raw::qz_media_charset(value.as_ptr(), value.len()) };
+fn charset(c: raw::QzCharset) -> Result<Charset, Refusal> {
     let charset = match c.kind {
         raw::NO_CHARSET => Charset::NotStated,
         raw::STATED_CHARSET => {
@@ -182,4 +174,31 @@ pub fn media_charset(value: &[u8]) -> Result<Charset, Refusal> {
         _ => Charset::Latin1,
     };
     unless_refused(c.number, c.place, charset)
+}
+
+/// Reads a media type and gives its effective charset: the value of its parameter `charset`, or none without it, for
+/// every type. It is never [`Charset::Latin1`].
+///
+/// ```
+/// use quizotepec::{media_charset, Charset, Span};
+/// assert_eq!(media_charset(b"text/html"), Ok(Charset::NotStated));
+/// let value = Span { start: 12, length: 5 };
+/// assert_eq!(media_charset(b"a/b;charset=utf-8"), Ok(Charset::Stated { value, quoted: false }));
+/// ```
+pub fn media_charset(value: &[u8]) -> Result<Charset, Refusal> {
+    // SAFETY: the pointer is valid for reads of the length.
+    charset(unsafe { raw::qz_media_charset(value.as_ptr(), value.len()) })
+}
+
+/// As [`media_charset`], but type `text` without the parameter has ISO-8859-1: the default of RFC 2616 3.7.1, which
+/// RFC 7231 dropped. For callers that rely on it.
+///
+/// ```
+/// use quizotepec::{media_charset_assuming_iso_8859_1, Charset};
+/// assert_eq!(media_charset_assuming_iso_8859_1(b"TEXT/html"), Ok(Charset::Latin1));
+/// assert_eq!(media_charset_assuming_iso_8859_1(b"image/gif"), Ok(Charset::NotStated));
+/// ```
+pub fn media_charset_assuming_iso_8859_1(value: &[u8]) -> Result<Charset, Refusal> {
+    // SAFETY: the pointer is valid for reads of the length.
+    charset(unsafe { raw::qz_media_charset_assuming_iso_8859_1(value.as_ptr(), value.len()) })
 }

@@ -244,28 +244,29 @@ pub struct QzMedia {
 /// How many entries QzMedia.parameters has.
 pub const PARAMETERS: usize = 16;
 
-/// QzCharset.kind where number is 0: there is none.
+/// QzCharset.kind where number is 0: none is stated.
 pub const NO_CHARSET: u8 = 0;
 
-/// It is the value of the parameter.
+/// It is the value of the parameter `charset`.
 pub const STATED_CHARSET: u8 = 1;
 
-/// It is that of type `text` without the parameter.
-pub const ISO_8859_1: u8 = 2;
-
-/// The effective charset of a media type.
+/// The charset of a media type.
 #[repr(C)]
 #[derive(Clone, Copy)]
 pub struct QzCharset {
     pub number: u8,
     pub place: usize,
-    /// QZ_NO_CHARSET, QZ_STATED_CHARSET or QZ_ISO_8859_1
+    /// QZ_NO_CHARSET, QZ_STATED_CHARSET or, where that is assumed, QZ_ISO_8859_1
     pub kind: u8,
     /// of a stated charset, without its quotes
     pub start: usize,
     pub length: usize,
     pub quoted: bool,
 }
+
+/// QzCharset.kind by qz_media_charset_assuming_iso_8859_1 alone: type `text`, in any letter case, without the
+/// parameter.
+pub const ISO_8859_1: u8 = 2;
 
 /// Where a part stands in the input.
 #[repr(C)]
@@ -345,7 +346,7 @@ pub struct QzFed {
 /// The version of this header; qz_library_version gives that of the library which is linked.
 pub const VERSION_MAJOR: u32 = 0;
 
-pub const VERSION_MINOR: u32 = 7;
+pub const VERSION_MINOR: u32 = 8;
 
 pub const VERSION_PATCH: u32 = 0;
 
@@ -377,6 +378,7 @@ extern "C" {
     pub fn qz_media_read(s: *const u8, s_len: usize) -> QzMedia;
     pub fn qz_media_equal(a: *const u8, a_len: usize, b: *const u8, b_len: usize) -> QzSame;
     pub fn qz_media_charset(s: *const u8, s_len: usize) -> QzCharset;
+    pub fn qz_media_charset_assuming_iso_8859_1(s: *const u8, s_len: usize) -> QzCharset;
     pub fn qz_url_read(s: *const u8, s_len: usize) -> QzUrl;
     pub fn qz_url_equal(a: *const u8, a_len: usize, b: *const u8, b_len: usize) -> QzSame;
     pub fn qz_products_read(s: *const u8, s_len: usize) -> QzProducts;

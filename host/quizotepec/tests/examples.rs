@@ -1,16 +1,17 @@
 //! The examples of document 01 and of RFC 2616 section 3, as written there, and cases beside them; years of two digits
-//! by request (ii), seconds by request (iii), byte ranges by request (iv) and trailers by request (xii) of document 02.
+//! by request (ii), seconds by request (iii), byte ranges by request (iv), charsets by request (v) and trailers by
+//! request (xii) of document 02.
 
 mod common;
 
 use common::{at, lend, whole};
 use quizotepec::{
     chunked_decode, chunked_encode, content_range_write, date_read, date_write, delta_read, etag_read,
-    etag_strong_match, etag_weak_match, language_equal, language_read, media_charset, media_equal,
-    media_read, products_read, qvalue_read, qvalue_write, ranges_read, url_equal, url_read, version_compare,
-    version_read, version_write, Charset, Date, Decoded, EntityTag, LanguageTag, Parameter, Pieces, Products,
-    Range, Ranges, Refusal, Refused, Seconds, Span, Url, Version, Which, FIRST_PRESENT_YEAR,
-    LAST_PRESENT_YEAR,
+    etag_strong_match, etag_weak_match, language_equal, language_read, media_charset,
+    media_charset_assuming_iso_8859_1, media_equal, media_read, products_read, qvalue_read, qvalue_write,
+    ranges_read, url_equal, url_read, version_compare, version_read, version_write, Charset, Date, Decoded,
+    EntityTag, LanguageTag, Parameter, Pieces, Products, Range, Ranges, Refusal, Refused, Seconds, Span, Url,
+    Version, Which, FIRST_PRESENT_YEAR, LAST_PRESENT_YEAR,
 };
 use std::cmp::Ordering;
 
@@ -521,6 +522,7 @@ fn equal_media_types() {
         (html, "TEXT/HTML ; Charset=UTF-8", true),
         (html, "text/html", false),
         (html, "text/html;charset=utf-7", false),
+        ("text/html", "text/html;charset=ISO-8859-1", false),
         ("a/b;x=1;y=2", "a/b;y=2;x=\"1\"", true),
         ("a/b;x=1;y=2", "a/b;x=1", false),
         ("a/b;x=1", "a/b;x=1;y=2", false),
@@ -542,14 +544,28 @@ fn equal_media_types() {
 #[test]
 fn charsets() {
     let stated = |start, length, quoted| Ok(Charset::Stated { value: span(start, length), quoted });
-    assert_eq!(media_charset(b"text/html; charset=ISO-8859-4"), stated(19, 10, false));
-    assert_eq!(media_charset(b"image/gif;CharSet=x"), stated(18, 1, false));
-    assert_eq!(media_charset(b"text/plain;a=b;charset=\"\""), stated(24, 0, true));
-    assert_eq!(media_charset(b"TEXT/plain;charse=x"), Ok(Charset::Latin1));
-    assert_eq!(media_charset(b"texts/plain"), Ok(Charset::NotStated));
-    assert_eq!(media_charset(b"image/gif;a=charset"), Ok(Charset::NotStated));
-    assert_eq!(media_charset(b"text/plain;charset"), no(1, 18));
-    assert_eq!(media_charset(b"text/plain;charset=a;Charset=b"), no(11, 28));
+    let none = Ok(Charset::NotStated);
+    let by_both = [
+        ("text/html; charset=ISO-8859-4", stated(19, 10, false)),
+        ("TEXT/plain;charset=utf-8", stated(19, 5, false)),
+        ("image/gif;CharSet=x", stated(18, 1, false)),
+        ("text/html;charset=\"\"", stated(19, 0, true)),
+        ("text/plain;a=b;charset=\"\"", stated(24, 0, true)),
+        ("application/json", none),
+        ("texts/plain", none),
+        ("tex/plain", none),
+        ("image/text;a=charset", none),
+        ("text/plain;charset", no(1, 18)),
+        ("text/plain;charset=a;Charset=b", no(11, 28)),
+    ];
+    for (text, charset) in by_both {
+        assert_eq!(media_charset(text.as_bytes()), charset, "{text}");
+        assert_eq!(media_charset_assuming_iso_8859_1(text.as_bytes()), charset, "{text}");
+    }
+    for text in ["text/html", "TEXT/plain;charse=x", "tExT/x;a=charset", "text/charset"] {
+        assert_eq!(media_charset(text.as_bytes()), none, "{text}");
+        assert_eq!(media_charset_assuming_iso_8859_1(text.as_bytes()), Ok(Charset::Latin1), "{text}");
+    }
 }
 
 #[test]

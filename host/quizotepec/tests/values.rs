@@ -8,8 +8,9 @@ use independent::generate::{any, at_limits, every, pair, short, valid, Kind, Rng
 use independent::{delta, etag, language, media, products, qvalue, url, version};
 use quizotepec::{
     delta_read, etag_read, etag_strong_match, etag_weak_match, language_equal, language_read, media_charset,
-    media_equal, media_read, products_read, qvalue_read, url_equal, url_read, version_compare, version_read,
-    Charset, EntityTag, LanguageTag, Parameter, Products, Refusal, Refused, Seconds, Url, Version,
+    media_charset_assuming_iso_8859_1, media_equal, media_read, products_read, qvalue_read, url_equal,
+    url_read, version_compare, version_read, Charset, EntityTag, LanguageTag, Parameter, Products, Refusal,
+    Refused, Seconds, Url, Version,
 };
 use std::fmt::Debug;
 
@@ -26,7 +27,7 @@ const READ: [(Kind, Agree); 9] = [
     (Kind::Language, language_agrees),
     (Kind::EntityTag, etag_agrees),
     (Kind::MediaType, media_agrees),
-    (Kind::MediaType, charset_agrees),
+    (Kind::MediaType, charsets_agree),
     (Kind::Url, url_agrees),
     (Kind::Products, products_agrees),
 ];
@@ -176,16 +177,33 @@ fn charset_fields(read: Result<media::Charset, independent::Refusal>) -> raw::Qz
     }
 }
 
-fn charset_agrees(input: &[u8]) {
-    let expected = media::effective_charset(input);
-    let fields = unsafe { raw::qz_media_charset(input.as_ptr(), input.len()) };
-    assert_eq!(of_charset(fields), of_charset(charset_fields(expected)), "{input:?}");
-    let charset = |c: media::Charset| match c {
+fn charset(c: media::Charset) -> Charset {
+    match c {
         media::Charset::Given { value, quoted } => Charset::Stated { value: span(value), quoted },
         media::Charset::TextDefault => Charset::Latin1,
         media::Charset::Absent => Charset::NotStated,
-    };
-    alike(input, media_charset(input), expected.map(charset));
+    }
+}
+
+/// The answer of one call: its fields, its name in bytes, and all else.
+fn charset_agrees(
+    input: &[u8],
+    fields: raw::QzCharset,
+    answer: Result<Charset, Refusal>,
+    expected: Result<media::Charset, independent::Refusal>,
+) {
+    assert_eq!(of_charset(fields), of_charset(charset_fields(expected)), "{input:?}");
+    let name = answer.map(|c| c.name_in(input));
+    assert_eq!(name.ok(), expected.ok().map(|c| c.name(input)), "{input:?}");
+    alike(input, answer, expected.map(charset));
+}
+
+fn charsets_agree(input: &[u8]) {
+    let fields = unsafe { raw::qz_media_charset(input.as_ptr(), input.len()) };
+    charset_agrees(input, fields, media_charset(input), media::effective_charset(input));
+    let fields = unsafe { raw::qz_media_charset_assuming_iso_8859_1(input.as_ptr(), input.len()) };
+    let answer = media_charset_assuming_iso_8859_1(input);
+    charset_agrees(input, fields, answer, media::charset_assuming_iso_8859_1(input));
 }
 
 fn url_agrees(input: &[u8]) {
@@ -292,7 +310,9 @@ fn every_byte_at_every_place() {
         (language_agrees, "en-cockney"),
         (etag_agrees, "W/\"x\\y\""),
         (media_agrees, "a/b; x=1 ;charset=\"\\1\""),
-        (charset_agrees, "a/b; x=1 ;charset=\"\\1\""),
+        (charsets_agree, "a/b; x=1 ;charset=\"\\1\""),
+        (charsets_agree, "text/b;x=1"),
+        (charsets_agree, "TEXT/b;charset=1"),
         (url_agrees, "http://a.b-c:8080/~d/%7e?e=%2F?"),
         (products_agrees, "a/1 (b (c) \\)) d"),
     ];
@@ -356,7 +376,7 @@ fn random_media_types() {
 
 #[test]
 fn random_charsets() {
-    random(Kind::MediaType, charset_agrees, 22);
+    random(Kind::MediaType, charsets_agree, 22);
 }
 
 #[test]
