@@ -21,7 +21,7 @@ use Rattle.media_charset.proofs.Effect.{value-is, default-unstated, val
 
 -- ## Parts
 
--- so f says what is stated, whatever its argument, or what holds without the parameter
+-- f says what is stated, whatever its argument, or else what holds without the parameter
 abbrev StatedOr : {A : Type 0} → (f without : A → Effective) → Type 0
 StatedOr {A} f without =
     ((i : ℕ) × (n : ℕ) × (q : Bool) × ((a : A) → f a ≡ stated i n q)) ⊎ ((a : A) → f a ≡ without a)

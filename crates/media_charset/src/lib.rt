@@ -36,7 +36,8 @@ pub fn charset_assuming_iso_8859_1(s: &[u8]) -> Charset
     read_charset(s, true)
 }
 
-// The value of `charset`, or what holds without it. The loop is here, because a table that is passed on is copied.
+// The value of `charset`, or what holds without it, with ISO-8859-1 assumed of `text` or not. The loop stands here, because a table that is
+// passed on is copied.
 fn read_charset(s: &[u8], assumed: bool) -> Charset
     ensures { λ r. ⌜ charset-verdict r ≡ header (charsets assumed) (now (s .entry)) ⌝ }
 {
