@@ -209,6 +209,18 @@ static void show_equal_urls(const char *a, const char *b)
     show_same(b, qz_url_equal(bytes(a), strlen(a), bytes(b), strlen(b)));
 }
 
+/* A normal form is at most one byte longer than its URL. */
+static void show_normal(const char *text)
+{
+    uint8_t out[64];
+    QzWritten w = qz_url_normalize(bytes(text), strlen(text), out, sizeof out);
+    if (w.number != 0) {
+        show_refusal(text, w.number, w.place);
+        return;
+    }
+    printf("normal form of %s: %.*s\n", text, (int)w.length, (const char *)out);
+}
+
 static void show_urls(void)
 {
     show_url("http://abc.com:8080/~smith/home.html?a");
@@ -217,6 +229,9 @@ static void show_urls(void)
     show_equal_urls("http://abc.com:80/~smith/home.html", "http://ABC.com:/%7esmith/home.html");
     show_equal_urls("http://a/", "http://a/?");
     show_equal_urls("http://a", "http://a#");
+    show_normal("HTTP://ABC.com:/%7Esmith/home.html");
+    show_normal("http://A:08080/%2f%2F%41");
+    show_normal("http://a?x");
 }
 
 static void show_products(const char *text)

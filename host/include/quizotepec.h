@@ -49,7 +49,7 @@ enum {
     QZ_REPEATED_ATTRIBUTE = 11,
     /* Comment nested deeper than 8; place: the ninth open parenthesis. */
     QZ_COMMENT_TOO_DEEP = 12,
-    /* Header value above 8,192 bytes; place: 8,192. */
+    /* Header value, or normal form of a URL, above 8,192 bytes; place: 8,192. */
     QZ_VALUE_TOO_LONG = 13,
     /* Framed body above 1,099,511,627,776 bytes (reader of pieces); place: the byte after that. */
     QZ_FRAMED_TOO_LONG = 14,
@@ -355,6 +355,13 @@ QzUrl qz_url_read(const uint8_t *s, size_t s_len);
  * as `/`, an escape of a letter, a digit or one of - _ . ! ~ * ' ( ) as that character. */
 QzSame qz_url_equal(const uint8_t *a, size_t a_len, const uint8_t *b, size_t b_len);
 
+/* Writes the normal form of a URL: scheme and host in lower case, no port 80, any other port without leading zeros,
+ * `/` for an absent path, no escape of a letter, a digit or one of - _ . ! ~ * ' ( ). All else stays as it is: any
+ * other escape, its letter case too, and `.` and `..` in a path. It is at most one byte longer than the URL, by that
+ * `/`. Two URLs whose normal forms are written are equal exactly where those have the same bytes. A normal form of
+ * 8,193 bytes is refused as a value that is too long; the place of that refusal, 8,192, counts in the normal form. */
+QzWritten qz_url_normalize(const uint8_t *s, size_t s_len, uint8_t *out, size_t out_len);
+
 /* Products and comments that were read. */
 typedef struct QzProducts {
     uint8_t number;
@@ -417,7 +424,7 @@ QzFed qz_pieces_feed(QzPieces pieces, const uint8_t *piece, size_t piece_len, si
 
 /* The version of this header; qz_library_version gives that of the library which is linked. */
 #define QZ_VERSION_MAJOR 0
-#define QZ_VERSION_MINOR 8
+#define QZ_VERSION_MINOR 9
 #define QZ_VERSION_PATCH 0
 
 /* The version of the library. */

@@ -276,6 +276,53 @@ static Answer of_QzUrl(QzUrl r, const Call *c)
     return answer(r.number, r.place, c->a.length, r.number == 0 ? is_url(r, c) : none);
 }
 
+static bool is_capital(uint8_t b)
+{
+    return b >= 'A' && b <= 'Z';
+}
+
+/* It begins with `http://`, has no capital before its path, is equal to its URL, and is its own normal form. */
+static bool is_normal(const uint8_t *form, size_t length, const Call *c)
+{
+    uint8_t again[VALUE_LIMIT];
+    QzWritten w;
+    QzSame s;
+    size_t i = strlen("http://");
+    if (length < i + 2 || length > VALUE_LIMIT || memcmp(form, "http://", i) != 0) {
+        return false;
+    }
+    for (; form[i] != '/'; i++) {
+        if (i + 1 == length || is_capital(form[i])) {
+            return false;
+        }
+    }
+    s = qz_url_equal(form, length, c->a.bytes, c->a.length);
+    w = qz_url_normalize(form, length, again, sizeof again);
+    return s.number == 0 && s.same && w.number == 0 && w.length == length && memcmp(form, again, length) == 0;
+}
+
+static size_t digits(unsigned n)
+{
+    return n < 10 ? 1 : 1 + digits(n / 10);
+}
+
+/* The length of the URL, or of its normal form where that is longer: by the `/` of an absent path. */
+static size_t normal_limit(const Call *c)
+{
+    QzUrl u = qz_url_read(c->a.bytes, c->a.length);
+    size_t port = u.port == 80 ? 0 : 1 + digits(u.port);
+    size_t bare = strlen("http://") + u.host.length + port + strlen("/");
+    return u.number == 0 && !u.path.present && bare > c->a.length ? bare : c->a.length;
+}
+
+static Answer of_normal(QzWritten r, const Call *c)
+{
+    bool kept = r.number == 0 ? r.length <= c->out.length && is_normal(c->out.bytes, r.length, c) : r.length == 0;
+    Answer x = answer(r.number, r.place, normal_limit(c), kept);
+    x.front = r.length;
+    return x;
+}
+
 static Answer of_QzProducts(QzProducts r, const Call *c)
 {
     size_t count = r.products + r.comments;
@@ -410,7 +457,8 @@ static const char *const media_types[] = {"text/html; charset=ISO-8859-4",
                                           "a/b;a=1;b=1;c=1;d=1;e=1;f=1;g=1;h=1;i=1;j=1;k=1;l=1;m=1;n=1;o=1;p=1;q=1",
                                           NULL};
 static const char *const urls[] = {"http://abc.com:80/~smith/home.html", "HTTP://ABC.com:/%7esmith/home.html",
-                                   "http://a.b:65536", "http://a/b;c=%2F?d&e?f", NULL};
+                                   "http://a.b:65536", "http://a/b;c=%2F?d&e?f", "http://A-b:080",
+                                   "http://A-b", "http://a.b:8080", NULL};
 static const char *const products[] = {"CERN-LineMode/2.15 libwww/2.17b3", "a (b (c\\)) d)\t(\xff)",
                                        "((((((((x))))))))", NULL};
 static const char *const bodies[] = {"0\r\n\r\n",
@@ -463,6 +511,7 @@ static uint8_t *lent(Block block, const Call *c)
     ROW(qz_media_charset_assuming_iso_8859_1, (A), assumed, media_types, MEDIA)                                      \
     ROW(qz_url_read, (A), QzUrl, urls, NO(1) | NO(2) | NO(13))                                                       \
     ROW(qz_url_equal, (A, B), QzSame, urls, NO(1) | NO(2) | NO(13))                                                  \
+    ROW(qz_url_normalize, (A, OUT), normal, urls, NO(1) | NO(2) | NO(8) | NO(13))                                    \
     ROW(qz_products_read, (A), QzProducts, products, NO(1) | NO(12) | NO(13))                                        \
     ROW(qz_chunked_decode, (A, OUT), QzBody, bodies, NO(1) | NO(5) | NO(6) | NO(7) | NO(15))                         \
     ROW(qz_chunked_encode, (A, (size_t)c->numbers[0], OUT), QzWritten, texts, NO(7) | NO(8) | NO(9))                 \

@@ -12,7 +12,7 @@ use Rattle.octets.specs.Numbers.{length-limit}
 use Rattle.numerals.specs.Numeral.{numeral}
 use Rattle.numerals.proofs.Digits.{split, width-below, numeral-length}
 use Rattle.text.specs.Placing.{placed, behind}
-use Rattle.text.proofs.Placing.{placed-front, Put, put-none, put-then}
+use Rattle.text.proofs.Placing.{placed-front, Put, put-none, put-then, front-fits, front-then}
 use Rattle.content_range_writer.specs.Writing.{content-range-text, InRange, out-of-range}
 
 -- ## Its digits
@@ -20,13 +20,6 @@ nineteen-digits : (n : ℕ) → n ≤ length-limit → length (numeral 10 n) ≤
 nineteen-digits n h = omega (arith, numeral-length 10 n, width-below 18 n (omega arith))
 
 -- ## The parts, one behind the other
-front-fits : (xs ys old : List ℕ) → length (xs ++ ys) ≤ length old → length xs ≤ length old
-front-fits xs ys old h = omega (arith, length-append xs ys)
-
-front-then : (old xs new : List ℕ) (p : ℕ) (ys new′ : List ℕ) (p′ : ℕ) → Put old 0 xs new p → length (xs ++ ys) ≤ length old
-    → p′ ≡ behind new p ys → new′ ≡ placed new p ys → Put old 0 (xs ++ ys) new′ p′
-front-then old xs new p ys new′ p′ h l = put-then old 0 xs new p ys new′ p′ h (omega (arith, length-append xs ys))
-
 module _ (first last entity-length : ℕ) where
   -- the text as far as each of its parts but the last
   abbrev to-first : List ℕ

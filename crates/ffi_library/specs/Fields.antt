@@ -2,4 +2,4 @@
 use Rattle.ffi_library.specs.declared.QzLibraryVersion.{QzLibraryVersion}
 
 abbrev pub library-version : QzLibraryVersion
-library-version = record { major = 0; minor = 8; patch = 0 }
+library-version = record { major = 0; minor = 9; patch = 0 }

@@ -5,7 +5,7 @@ ghost use Rattle.ffi_library.specs.Fields.{library-version};
 // The version of this header; qz_library_version gives that of the library which is linked.
 pub const VERSION_MAJOR: u32 = 0;
 
-pub const VERSION_MINOR: u32 = 8;
+pub const VERSION_MINOR: u32 = 9;
 
 pub const VERSION_PATCH: u32 = 0;
 

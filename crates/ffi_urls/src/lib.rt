@@ -1,12 +1,14 @@
 // URLs for C and Rust. Nothing is decided here.
 ghost use mathlib.Core.Path.{_≡_};
+ghost use lib.ListN.{length};
 ghost use Rattle.grammar.specs.helpers.Judge.{header};
-ghost use Rattle.grammar.specs.Comparing.{compare as comparing};
 ghost use Rattle.url.specs.Grammar.{rules as urls};
-ghost use Rattle.url_equal.specs.Meaning.{same-page, pages};
-ghost use Rattle.ffi.specs.Fields.{same-fields};
+ghost use Rattle.url_equal.specs.Meaning.{equality as url-equality};
+ghost use Rattle.url_normal.specs.Normal.{normal-writing, normal-output};
+ghost use Rattle.ffi.specs.Fields.{same-fields, written-fields};
 ghost use Rattle.ffi_urls.specs.Fields.{url-fields, part-fields};
 use ffi::QzSame;
+use ffi::QzWritten;
 use url::Place;
 
 // Where a part stands in the input.
@@ -84,9 +86,22 @@ pub extern "C" fn qz_url_read(s: &[u8]) -> QzUrl
 // as `/`, an escape of a letter, a digit or one of - _ . ! ~ * ' ( ) as that character.
 #[no_mangle]
 pub extern "C" fn qz_url_equal(a: &[u8], b: &[u8]) -> QzSame
-    ensures { λ r. ⌜ r ≡ same-fields (comparing same-page (header pages (now (a .entry))) (header pages (now (b .entry)))) ⌝ }
+    ensures { λ r. ⌜ r ≡ same-fields (url-equality (now (a .entry)) (now (b .entry))) ⌝ }
 {
     ffi::same_of(url_equal::equal(a, b))
+}
+
+// Writes the normal form of a URL: scheme and host in lower case, no port 80, any other port without leading zeros, `/` for an absent
+// path, no escape of a letter, a digit or one of - _ . ! ~ * ' ( ). All else stays as it is: any other escape, its letter case too, and
+// `.` and `..` in a path. It is at most one byte longer than the URL, by that `/`. Two URLs whose normal forms are written are equal
+// exactly where those have the same bytes. A normal form of 8,193 bytes is refused as a value that is too long; the place of that refusal,
+// 8,192, counts in the normal form.
+#[no_mangle]
+pub extern "C" fn qz_url_normalize(s: &[u8], out: &mut [u8]) -> QzWritten
+    ensures answers { λ r. ⌜ r ≡ written-fields (normal-writing (now (s .entry)) (length (now (out .entry)))) ⌝ }
+    ensures writes { λ _. ⌜ now (out .exit) ≡ normal-output (now (s .entry)) (now (out .entry)) ⌝ }
+{
+    ffi::written_fields(url_normal::normalize(s, out))
 }
 
 fn part_of(p: Place) -> QzPart

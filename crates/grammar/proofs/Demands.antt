@@ -7,11 +7,12 @@ use mathlib.Core.Bool.{Bool, true, false, cond}
 use mathlib.Core.List.{List, _++_}
 use mathlib.Core.Option.{none, some}
 use lib.Dec.{T}
-use lib.ListN.{length}
+use lib.ListN.{length, take}
 use Rattle.grammar.specs.Grammar.{Part, Grammar, Parses}
 use Rattle.grammar.specs.Beginnings.{Longest}
 use Rattle.grammar.specs.Refusals.{MALFORMED, OUT_OF_RANGE}
-use Rattle.grammar.specs.Reading.{value-limit, Rules, Limit, Passes, Breaks, Sound, Stays, Verdict, refused, Answers}
+use Rattle.grammar.specs.Reading.{value-limit, Rules, Limit, parts-before, SoFar, Passes, Breaks, Sound, Stays}
+use Rattle.grammar.specs.Reading.{Verdict, refused, Answers}
 use Rattle.grammar.specs.Endings.{Judgement, stops, judging}
 use Rattle.grammar.specs.Arguments.{Asked, out-of-range, in-range}
 use Rattle.grammar.specs.helpers.Derivative.{live, reach}
@@ -59,6 +60,11 @@ module _ {L A : Type 0} (r : Rules L A)
   -- a well-formed text has its parts in one way only
   pub one-parse : (s : List ℕ) (ps qs : List (Part L)) → Parses (r .grammar) 0 s ps → Parses (r .grammar) 0 s qs → ps ≡ qs
   one-parse s ps qs = Exact.one-parse r fresh (deterministic-steady (r .grammar) fresh one-way) s ps qs
+
+  -- and so has each beginning of it: the parts of the whole, as far as it holds them
+  pub one-beginning : (s : List ℕ) (qs : List (Part L)) → Parses (r .grammar) 0 s qs → (n : ℕ) → n ≤ length s → (ps : List (Part L))
+      → SoFar r (take n s) ps → ps ≡ parts-before n qs
+  one-beginning = Places.begun-with r fresh (deterministic-steady (r .grammar) fresh one-way)
 
   -- A limit that stays passed is broken at one place, the one that its row names.
   pub one-place : (l : Limit) → Stays r l → (s : List ℕ) (j k : ℕ) → Breaks r s l j → Breaks r s l k → j ≡ k

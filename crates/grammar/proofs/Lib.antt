@@ -28,3 +28,4 @@ pub mod Regroup
 pub mod Values
 pub mod Matching
 pub mod Words
+pub mod Texts

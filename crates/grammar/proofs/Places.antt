@@ -18,8 +18,17 @@ use Rattle.grammar.proofs.Derivative.{residual-means}
 use Rattle.grammar.proofs.Longest.{live-front}
 use Rattle.grammar.proofs.Exact.{below, orders, Steady, begun-parts, so-far, of-live}
 
-module _ {L A : Type 0} (r : Rules L A) (fresh : T (fresh? (r .grammar))) (steady : Steady (r .grammar)) (l : Limit) where
-  module _ (stays : Stays r l) where
+module _ {L A : Type 0} (r : Rules L A) (fresh : T (fresh? (r .grammar))) (steady : Steady (r .grammar)) where
+  -- the parts as far as a beginning holds them are those of the whole text
+  pub begun-with : (s : List ℕ) (qs : List (Part L)) → Parses (r .grammar) 0 s qs → (n : ℕ) → n ≤ length s → (ps : List (Part L))
+      → SoFar r (take n s) ps → ps ≡ parts-before n qs
+  begun-with s qs m n at ps v =
+      let parse = subst (λ (p : List ℕ). Parses (r .grammar) 0 p qs) (sym (take-append-drop n s)) m in
+      so-far r fresh steady (take n s) ps v .1
+      ∙ sym (begun-parts r fresh steady (take n s) (drop n s) qs (residual-means (r .grammar) 0 (take n s) (drop n s) qs .0 parse))
+      ∙ ap (λ (i : ℕ). parts-before i qs) (length-take-le n s at)
+
+  module _ (l : Limit) (stays : Stays r l) where
     stays-on : (j k : ℕ) (ps : List (Part L)) → j ≤ k → r .limit j (parts-before (suc j) ps) ≡ some l
         → r .limit k (parts-before (suc k) ps) ≡ some l
     stays-on j zero ps h e = subst (λ (i : ℕ). r .limit i (parts-before (suc i) ps) ≡ some l) (omega arith) e

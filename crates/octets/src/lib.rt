@@ -51,7 +51,7 @@ pub const REPEATED_ATTRIBUTE: u8 = 11;
 // Comment nested deeper than 8; place: the ninth open parenthesis.
 pub const COMMENT_TOO_DEEP: u8 = 12;
 
-// Header value above 8,192 bytes; place: 8,192.
+// Header value, or normal form of a URL, above 8,192 bytes; place: 8,192.
 pub const VALUE_TOO_LONG: u8 = 13;
 
 // Framed body above 1,099,511,627,776 bytes (reader of pieces); place: the byte after that.

@@ -50,17 +50,23 @@ module _ (old : List ℕ) (at : ℕ) (xs : List ℕ) where
   pub puts-nothing : length old < at + length xs → (at ≡ behind old at xs) × (old ≡ placed old at xs)
   puts-nothing h = (sym (behind-short h), sym (placed-short h))
 
-  -- and where it does: a part of its length was lent, and xs was put there
+  -- and where it does: a part of its length was lent, and xs is there now
+  pub puts-all : (part : List ℕ) (e : ℕ) → at + length xs ≤ length old → e ≡ at + length xs → part ≡ xs
+      → (e ≡ behind old at xs) × (take at old ++ (part ++ drop (e - at) (drop at old)) ≡ placed old at xs)
+  puts-all part e h n p =
+      let k : at + (e - at) ≡ at + length xs = omega arith in (
+        n ∙ sym (behind-fits h),
+        ap₂ (λ (y z : List ℕ). take at old ++ (y ++ z)) p (drop-drop (e - at) at old ∙ ap (λ (i : ℕ). drop i old) k) ∙ sym (placed-fits h),
+      )
+
+  -- or was put there
   pub puts-part : (part : List ℕ) (e : ℕ) → at + length xs ≤ length old → e ≡ at + length xs
       → part ≡ Numeral.put xs (take (e - at) (drop at old))
       → (e ≡ behind old at xs) × (take at old ++ (part ++ drop (e - at) (drop at old)) ≡ placed old at xs)
   puts-part part e h n p =
-      let k : at + (e - at) ≡ at + length xs = omega arith in
       let l : length (take (e - at) (drop at old)) ≡ length xs =
-      length-take-le (e - at) (drop at old) (omega (arith, length-drop at old)) ∙ omega arith in (
-        n ∙ sym (behind-fits h),
-        ap₂ (λ (y z : List ℕ). take at old ++ (y ++ z)) (p ∙ put-all (take (e - at) (drop at old)) xs l) (drop-drop (e - at) at old ∙ ap (λ (i : ℕ). drop i old) k) ∙ sym (placed-fits h),
-      )
+      length-take-le (e - at) (drop at old) (omega (arith, length-drop at old)) ∙ omega arith in
+      puts-all part e h n (p ∙ put-all (take (e - at) (drop at old)) xs l)
 
 -- what is put behind what was put is put together with it
 pub placed-placed : (old : List ℕ) (at : ℕ) (xs : List ℕ) (p : ℕ) (ys : List ℕ) → at + (length xs + length ys) ≤ length old
@@ -141,6 +147,33 @@ put-then old at xs new p ys new′ p′ h l e w =
       is = w ∙ ap (λ (z : List ℕ). placed z p ys) (h .is) ∙ placed-placed old at xs p ys l (h .ends);
       ends = e ∙ behind-fits new p ys (omega (arith, h .ends)) ∙ omega (arith, h .ends);
     }
+
+-- nothing put, and two texts put one behind the other, as one text that fits
+module _ (old : List ℕ) (at : ℕ) (xs : List ℕ) (h : at + length xs ≤ length old) where
+  pub puts-none : xs ≡ [] → (at ≡ behind old at xs) × (old ≡ placed old at xs)
+  puts-none e =
+      let w = put-none old at (omega arith) in
+      (w .ends ∙ ap (λ (l : List ℕ). at + length l) (sym e) ∙ sym (behind-fits old at xs h), w .is ∙ ap (placed old at) (sym e))
+
+  pub puts-two : (ys l₁ zs l₂ : List ℕ) (p₁ p₂ : ℕ) → xs ≡ ys ++ zs → p₁ ≡ behind old at ys → l₁ ≡ placed old at ys
+      → p₂ ≡ behind l₁ p₁ zs → l₂ ≡ placed l₁ p₁ zs → (p₂ ≡ behind old at xs) × (l₂ ≡ placed old at xs)
+  puts-two ys l₁ zs l₂ p₁ p₂ e e₁ w₁ e₂ w₂ =
+      let n : length xs ≡ length ys + length zs = ap length e ∙ length-append ys zs in
+      let one = put-then old at [] old at ys l₁ p₁ (put-none old at (omega arith)) (omega arith) e₁ w₁ in
+      let two = put-then old at ys l₁ p₁ zs l₂ p₂ one (omega arith) e₂ w₂ in
+      (two .ends ∙ ap (λ (l : List ℕ). at + length l) (sym e) ∙ sym (behind-fits old at xs h), two .is ∙ ap (placed old at) (sym e))
+
+-- at the front, where the whole fits
+pub front-fits : (xs ys old : List ℕ) → length (xs ++ ys) ≤ length old → length xs ≤ length old
+front-fits xs ys old h = omega (arith, length-append xs ys)
+
+pub front-then : (old xs new : List ℕ) (p : ℕ) (ys new′ : List ℕ) (p′ : ℕ) → Put old 0 xs new p → length (xs ++ ys) ≤ length old
+    → p′ ≡ behind new p ys → new′ ≡ placed new p ys → Put old 0 (xs ++ ys) new′ p′
+front-then old xs new p ys new′ p′ h l = put-then old 0 xs new p ys new′ p′ h (omega (arith, length-append xs ys))
+
+-- what comes next fits as well
+pub room-behind : (old xs new : List ℕ) (p : ℕ) (ys : List ℕ) → Put old 0 xs new p → length (xs ++ ys) ≤ length old → p + length ys ≤ length new
+room-behind old xs new p ys h l = omega (arith, h .ends, ap length (h .is), placed-length old 0 xs, length-append xs ys)
 
 -- what a number put there has to show, where it fits and where it does not
 module _ (old part : List ℕ) (at k : ℕ) (xs : List ℕ) (h : at ≤ length old) (n : k ≡ length xs)

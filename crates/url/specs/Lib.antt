@@ -1,4 +1,5 @@
 pub mod Bytes
 pub mod Grammar
 pub mod Reading
+pub mod Places
 pub mod helpers

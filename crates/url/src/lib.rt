@@ -7,6 +7,7 @@ ghost use Rattle.grammar.specs.helpers.Judge.{header};
 ghost use Rattle.octets.specs.helpers.Bits.{Bits};
 ghost use Rattle.url.specs.Grammar.{rules};
 ghost use Rattle.url.specs.Reading.{verdict};
+ghost use Rattle.url.specs.Places.{text-at};
 ghost use Rattle.url.specs.helpers.Scan.{Hexes, Found, AfterHost, BeforePath, BeforeQuery};
 ghost use Rattle.url.specs.helpers.Scan.{host-start, url-with};
 use octets::Class;
@@ -87,6 +88,22 @@ pub fn read(s: &[u8]) -> Reading
         });
     }
     read_port(s, end)
+}
+
+// The bytes of a value that stand at a span, as far as it has them.
+pub fn text_at<'a>(s: &'a [u8], x: Span) -> &'a [u8]
+    ensures { λ r. ⌜ now r ≡ text-at (now (s .entry)) x ⌝ }
+{
+    let len = s.len();
+    let start = x.start;
+    if start > len {
+        return &s[len..];
+    }
+    if x.length > len - start {
+        return &s[start..];
+    }
+    let end = start + x.length;
+    &s[start..end]
 }
 
 // Reads on from the place behind the host.

@@ -1,26 +1,22 @@
 -- The theorems of the equality of URLs: what a customer reads.
 use Prim.Native.Nat.{ℕ}
-use Prim.Native.Char.{code}
 use mathlib.Core.Path.{_≡_}
 use mathlib.Core.Logic.{_↔_}
-use mathlib.Core.Bool.{true}
-use mathlib.Core.List.{List, _∷_, _++_}
-use Rattle.grammar.specs.Grammar.{Part, Parses}
-use Rattle.grammar.specs.Comparing.{compare, outcome, refused-at}
+use mathlib.Core.Bool.{Bool, true}
+use mathlib.Core.List.{List}
+use Rattle.grammar.specs.Comparing.{outcome, refused-at}
 use Rattle.grammar.specs.Reading.{Verdict, value, refused, Answers}
 use Rattle.grammar.specs.helpers.Judge.{header}
 use Rattle.grammar.proofs.Demands.{answered-exactly}
+use Rattle.grammar.proofs.Comparing.{compare-read, compare-swap, compare-chain}
 use Rattle.url.specs.declared.Url.{Url}
-use Rattle.url.specs.Bytes.{PATH, QUERY}
-use Rattle.url.specs.Grammar.{Name, text-of, rules}
+use Rattle.url.specs.Grammar.{rules}
 use Rattle.url.proofs.Demands.{one-way}
-use Rattle.url.proofs.Scan.{path-no-percent, query-no-percent}
-use Rattle.url_equal.specs.Meaning.{escaped-byte, unneeded?, resolved, Page, pages, same-page}
-use Rattle.url_equal.specs.Equality.{Symbol, Spelled, Agree, EqualUrls}
+use Rattle.url_equal.specs.Meaning.{Page, pages, same-page, equality}
+use Rattle.url_equal.specs.Equality.{EqualUrls}
 use Rattle.url_equal.specs.Places.{page-in, Placed}
 use Rattle.url_equal.proofs.Meaning.{means}
-use Rattle.url_equal.proofs.Pages.{one-page}
-use Rattle.url_equal.proofs.Escapes.{equal-spelled, one-spelling, escape-behind, spelled}
+use Rattle.url_equal.proofs.Pages.{one-page, page-either, page-chain}
 use Rattle.url_equal.proofs.Equality.{one-page-compared, equal-compared}
 
 -- As `reading` of url: for what a URL means.
@@ -36,11 +32,11 @@ places = means
 -- What `equal` answers: two URLs are equal just where both are read, and their hosts, ports, paths and queries are equal. "host ignores
 -- case, an absent path equals `/`, and an escape of a letter, a digit or one of `- _ . ! ~ * ' ( )` equals that character. All else is
 -- compared byte for byte, so `%2F` and `%2f` differ, and so do `/` and `/?`."
-pub equal : (a b : List ℕ) → (compare same-page (header pages a) (header pages b) ≡ outcome true) ↔ EqualUrls a b
+pub equal : (a b : List ℕ) → (equality a b ≡ outcome true) ↔ EqualUrls a b
 equal = equal-compared
 
 -- The same by what they mean: one page.
-pub equal-pages : (a b : List ℕ) → (compare same-page (header pages a) (header pages b) ≡ outcome true)
+pub equal-pages : (a b : List ℕ) → (equality a b ≡ outcome true)
     ↔ ((p : Page) × (header pages a ≡ value p) × (header pages b ≡ value p))
 equal-pages = one-page-compared
 
@@ -50,30 +46,25 @@ same-page-is = one-page
 
 -- "a refusal says which it was": the first URL's, or else the second's
 pub first-refused : (a b : List ℕ) (n p : ℕ) → header pages a ≡ refused n p
-    → compare same-page (header pages a) (header pages b) ≡ refused-at 1 n p
+    → equality a b ≡ refused-at 1 n p
 first-refused a b n p e = rw e
 
 pub second-refused : (a b : List ℕ) (q : Page) (n p : ℕ) → header pages a ≡ value q → header pages b ≡ refused n p
-    → compare same-page (header pages a) (header pages b) ≡ refused-at 2 n p
+    → equality a b ≡ refused-at 2 n p
 second-refused a b q n p e f = rw (e, f)
 
--- ## Texts with escapes
+-- ## It behaves like equality: document 02, request (x)
 
--- Two texts are resolved to the same bytes just where their symbols agree one by one.
-pub equal-texts : (s t : List ℕ) (us vs : List Symbol) → Spelled s us → Spelled t vs → (resolved s ≡ resolved t) ↔ Agree us vs
-equal-texts s t us vs = equal-spelled
+-- Of readable URLs it always says whether they are equal.
+pub decided : (a b : List ℕ) (p q : Page) → header pages a ≡ value p → header pages b ≡ value q → (t : Bool) × (equality a b ≡ outcome t)
+decided a b p q e f = (same-page p q, compare-read same-page (header pages a) (header pages b) p q e f)
 
--- Each path and each query is symbols, and in one way only.
-pub path-spelled : (i : ℕ) (s : List ℕ) (ps : List (Part Name)) → Parses (text-of PATH) i s ps → (us : List Symbol) × Spelled s us
-path-spelled = spelled PATH path-no-percent
+pub reflexive : (a : List ℕ) (p : Page) → header pages a ≡ value p → equality a a ≡ outcome true
+reflexive a p e = equal-pages a a .1 (p, e, e)
 
-pub query-spelled : (i : ℕ) (s : List ℕ) (ps : List (Part Name)) → Parses (text-of QUERY) i s ps → (us : List Symbol) × Spelled s us
-query-spelled = spelled QUERY query-no-percent
+pub symmetric : (a b : List ℕ) (t : Bool) → equality a b ≡ outcome t → equality b a ≡ outcome t
+symmetric a b t = compare-swap same-page same-page (header pages a) (header pages b) t page-either
 
-pub spelled-once : (s : List ℕ) (us vs : List Symbol) → Spelled s us → Spelled s vs → us ≡ vs
-spelled-once s us vs = one-spelling
-
--- An escape that is not needed equals its character behind any beginning that breaks off inside no escape.
-pub escape-equals : (p : List ℕ) (us : List Symbol) → Spelled p us → (x y : ℕ) (t : List ℕ) → unneeded? x y ≡ true
-    → resolved (p ++ code "%" ∷ x ∷ y ∷ t) ≡ resolved (p ++ escaped-byte x y ∷ t)
-escape-equals p us = escape-behind
+pub transitive : (a b c : List ℕ) → equality a b ≡ outcome true → equality b c ≡ outcome true → equality a c ≡ outcome true
+transitive a b c =
+    compare-chain same-page same-page same-page (header pages a) (header pages b) (header pages c) true page-chain

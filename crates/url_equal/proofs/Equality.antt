@@ -19,12 +19,13 @@ use Rattle.octets.proofs.SameBytes.{same-is}
 use Rattle.url.specs.Bytes.{PATH, QUERY}
 use Rattle.url.specs.Grammar as G
 use Rattle.url.specs.Grammar.{Name, host, port, path, query, text-of, host-part, url, is-host, is-path, is-query, named, rules}
-use Rattle.url_equal.specs.Meaning.{lower-all, resolved, Page, page, pages, host-text, path-text, query-text, same-page}
-use Rattle.url_equal.specs.Equality.{Symbol, character, Spelled, nothing, a-character, EqualTexts, text-of-host, text-of-path}
-use Rattle.url_equal.specs.Equality.{EqualQueries, both-absent, both-there, EqualParts, HasParts, EqualUrls}
+use Rattle.escapes.specs.Resolved.{resolved}
+use Rattle.escapes.specs.Symbols.{Symbol, character, Spelled, nothing, a-character, EqualTexts}
+use Rattle.escapes.proofs.Escapes.{equal-spelled, spelled}
+use Rattle.url_equal.specs.Meaning.{lower-all, Page, page, pages, host-text, path-text, query-text, same-page}
+use Rattle.url_equal.specs.Equality.{text-of-host, text-of-path, EqualQueries, both-absent, both-there, EqualParts, HasParts, EqualUrls}
 use Rattle.url.proofs.Demands.{one-way}
 use Rattle.url_equal.proofs.Meaning.{alike-lower}
-use Rattle.url_equal.proofs.Escapes.{equal-spelled, spelled}
 use Rattle.url.proofs.Scan.{path-no-percent, query-no-percent}
 use Rattle.url_equal.proofs.Pages.{one-page}
 
@@ -177,8 +178,8 @@ has-parts s p e =
     let w = answered-alike pages G.value tt tt one-way s (value p) e in
     (w .0, record { parts = w .2; is-read = w .3 }, w .1)
 
-page-of : (s : List ℕ) (ps : List (Part Name)) → HasParts s ps → header pages s ≡ value (page ps)
-page-of s ps h =
+pub parts-mean : (s : List ℕ) (ps : List (Part Name)) → HasParts s ps → header pages s ≡ value (page ps)
+parts-mean s ps h =
     let w = answered-alike rules page tt tt one-way s (value (G.value ps)) (h .is-read) in
     w .3 ∙ ap (λ (qs : List (Part Name)). value (page qs)) (one-parse rules tt tt one-way s (w .0) ps (w .2) (h .parts))
 
@@ -215,4 +216,4 @@ equal-compared a b = (to, of)
     of : EqualUrls a b → compare same-page (header pages a) (header pages b) ≡ outcome true
     of (ps, qs, x, y, h) =
         let e = parts-equal ps qs (known-parts a ps (x .parts)) (known-parts b qs (y .parts)) .1 h in
-        one-page-compared a b .1 (page ps, page-of a ps x, page-of b qs y ∙ ap value (sym e))
+        one-page-compared a b .1 (page ps, parts-mean a ps x, parts-mean b qs y ∙ ap value (sym e))

@@ -1,6 +1,3 @@
-pub mod Tables
-pub mod Resolved
-pub mod Escapes
 pub mod Meaning
 pub mod Pages
 pub mod Equality

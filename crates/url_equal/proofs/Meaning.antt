@@ -1,29 +1,30 @@
--- What a URL means, from the places that reading gave: each part is the piece of the text at its place.
-use Prim.Native.Nat.{ℕ, _+_, _-_, _≤_}
+-- What a URL means, from the places that reading gave: each part is the text-at of the text at its place.
+use Prim.Native.Nat.{ℕ, _≤_}
 use native.Mathlib.Omega.{arith}
 use borrow.Author.Tests.{eq-eqb, ne-eqb}
 use mathlib.Core.Path.{_≡_, refl, sym, ap, ap₂, subst, _∙_}
 use mathlib.Core.Bool.{Bool, true, false, cond, _&&_}
-use mathlib.Core.List.{List, [], _∷_, _++_}
+use mathlib.Core.List.{List, [], _∷_}
 use mathlib.Core.Option.{Option, none, some}
 use lib.Dec.{eqb}
-use lib.ListN.{length, drop, take, length-append}
-use lib.Seq.{take-at, drop-at}
+use lib.ListN.{length}
 use Rattle.grammar.specs.Grammar.{Part, lower}
 use Rattle.grammar.specs.Reading.{value, refused}
 use Rattle.grammar.specs.helpers.Judge.{header}
 use Rattle.grammar.specs.helpers.Slices.{Slice, Slices}
-use Rattle.grammar.proofs.Longest.{past-length}
 use Rattle.grammar.proofs.Slices.{slices}
+use Rattle.grammar.proofs.Pieces.{slice-within, slice-is}
 use Rattle.grammar.proofs.Values.{answered-alike}
 use Rattle.octets.specs.Case.{alike}
 use Rattle.octets.specs.Same.{same?}
 use Rattle.url.specs.declared.Url.{Url}
 use Rattle.url.specs.Grammar as G
-use Rattle.url.specs.Grammar.{Name, url, is-host, is-path, is-query, named, span, host-span, place, rules}
+use Rattle.url.specs.Grammar.{Name, url, is-host, is-path, is-query, named, host-span, place, rules}
 use Rattle.url.proofs.Demands.{one-way}
-use Rattle.url_equal.specs.Meaning.{lower-all, resolved, host-text, path-text, query-text, page, pages, same-query, same-page}
-use Rattle.url_equal.specs.Places.{piece, Inside, Within, path-in, query-in, page-in, Placed}
+use Rattle.url.specs.Places.{text-at}
+use Rattle.escapes.specs.Resolved.{resolved}
+use Rattle.url_equal.specs.Meaning.{lower-all, host-text, path-text, query-text, page, pages, same-query, same-page}
+use Rattle.url_equal.specs.Places.{Inside, Within, path-in, query-in, page-in, Placed}
 
 module _ (s : List ℕ) where
   -- a part that stands in the text
@@ -39,30 +40,17 @@ module _ (s : List ℕ) where
       go true v = w .0
       go false v = v
 
-  slice-start : (c : Part Name) (w : Slice 0 s c) → length (w .0) ≡ c .start
-  slice-start c w = omega (arith, w .3, past-length 0 (w .0))
-
-  slice-inside : (c : Part Name) → Slice 0 s c → Inside s (span c)
-  slice-inside c w =
-      omega (arith, slice-start c w, ap length (w .2), length-append (w .0) (c .text ++ w .1), length-append (c .text) (w .1))
-
-  slice-piece : (c : Part Name) → Slice 0 s c → piece s (span c) ≡ c .text
-  slice-piece c w =
-      let e : length (c .text) ≡ (c .start + length (c .text)) - c .start = omega arith in
-      ap (take ((c .start + length (c .text)) - c .start)) (ap (drop (c .start)) (w .2) ∙ drop-at (w .0) (c .text ++ w .1) (c .start) (slice-start c w))
-      ∙ take-at (c .text) (w .1) ((c .start + length (c .text)) - c .start) e
-
-  host-there : (o : Option (Part Name)) → Stands o → Inside s (host-span o) × (lower-all (piece s (host-span o)) ≡ host-text o)
+  host-there : (o : Option (Part Name)) → Stands o → Inside s (host-span o) × (lower-all (text-at s (host-span o)) ≡ host-text o)
   host-there none w = (omega arith, refl)
-  host-there (some c) w = (slice-inside c w, ap lower-all (slice-piece c w))
+  host-there (some c) w = (slice-within s c w, ap lower-all (slice-is s c w))
 
   path-there : (o : Option (Part Name)) → Stands o → Within s (place o) × (path-in s (place o) ≡ path-text o)
   path-there none w = (omega arith, refl)
-  path-there (some c) w = (slice-inside c w, ap resolved (slice-piece c w))
+  path-there (some c) w = (slice-within s c w, ap resolved (slice-is s c w))
 
   query-there : (o : Option (Part Name)) → Stands o → Within s (place o) × (query-in s (place o) ≡ query-text o)
   query-there none w = (omega arith, refl)
-  query-there (some c) w = (slice-inside c w, ap (λ (t : List ℕ). some (resolved t)) (slice-piece c w))
+  query-there (some c) w = (slice-within s c w, ap (λ (t : List ℕ). some (resolved t)) (slice-is s c w))
 
   there : (ps : List (Part Name)) → Slices 0 s ps → Placed s (G.value ps) × (page-in s (G.value ps) ≡ page ps)
   there ps w =
@@ -93,7 +81,7 @@ alike-lower (x ∷ a) (y ∷ b) = ap (λ (t : Bool). eqb (lower x) (lower y) && 
 
 module _ (s t : List ℕ) (u v : Url) where
   abbrev hosts : Bool
-  hosts = same? (lower-all (piece s (u .host))) (lower-all (piece t (v .host)))
+  hosts = same? (lower-all (text-at s (u .host))) (lower-all (text-at t (v .host)))
 
   abbrev paths : Bool
   paths = same? (path-in s (u .path)) (path-in t (v .path))
@@ -104,8 +92,8 @@ module _ (s t : List ℕ) (u v : Url) where
   abbrev equal : Bool
   equal = same-page (page-in s u) (page-in t v)
 
-  pub host-compared : (x y : List ℕ) (b : Bool) → x ≡ piece s (u .host) → y ≡ piece t (v .host) → b ≡ alike x y → hosts ≡ b
-  host-compared x y b e f g = sym (g ∙ ap₂ alike e f ∙ alike-lower (piece s (u .host)) (piece t (v .host)))
+  pub host-compared : (x y : List ℕ) (b : Bool) → x ≡ text-at s (u .host) → y ≡ text-at t (v .host) → b ≡ alike x y → hosts ≡ b
+  host-compared x y b e f g = sym (g ∙ ap₂ alike e f ∙ alike-lower (text-at s (u .host)) (text-at t (v .host)))
 
   pub by-host : hosts ≡ false → false ≡ equal
   by-host e = rw e

@@ -45,3 +45,15 @@ one-page p q = (to, of)
         self : same-page p p ≡ true
         self =
             rw (same-is (p .host) (p .host) .1 refl, eq-eqb (p .port) (p .port) refl, same-is (p .path) (p .path) .1 refl, same-query-is (p .query) (p .query) .1 refl)
+
+-- whichever comes first
+pub page-either : (p q : Page) → same-page p q ≡ same-page q p
+page-either p q = go (same-page p q) (same-page q p) refl refl
+  where
+    go : (t u : Bool) → same-page p q ≡ t → same-page q p ≡ u → t ≡ u
+    go true u e f = sym (one-page q p .1 (sym (one-page p q .0 e))) ∙ f
+    go false true e f = sym e ∙ one-page p q .1 (sym (one-page q p .0 f))
+    go false false e f = refl
+
+pub page-chain : (p q r : Page) → same-page p q ≡ true → same-page q r ≡ true → same-page p r ≡ true
+page-chain p q r e f = one-page p r .1 (one-page p q .0 e ∙ one-page q r .0 f)

@@ -1,37 +1,22 @@
 -- What a URL means, and when two are the same: RFC 2616 3.2.3 as document 01 states it.
-use Prim.Native.Nat.{ℕ, _+_, _*_}
-use Prim.Native.Char.{code}
-use mathlib.Core.Bool.{Bool, true, false, cond, _&&_}
+use Prim.Native.Nat.{ℕ}
+use mathlib.Core.Bool.{Bool, true, false, _&&_}
 use mathlib.Core.List.{List, [], _∷_}
 use mathlib.Core.Option.{Option, none, some}
 use lib.Dec.{eqb}
 use Rattle.grammar.specs.Grammar.{Part, lower}
 use Rattle.grammar.specs.Reading.{Rules}
+use Rattle.grammar.specs.Comparing.{Comparison, compare}
 use Rattle.grammar.specs.Text.{bytes}
-use Rattle.octets.specs.Bytes.{hex?, hex-value}
+use Rattle.grammar.specs.helpers.Judge.{header}
 use Rattle.octets.specs.Same.{same?}
-use Rattle.url.specs.Bytes.{unreserved?}
 use Rattle.url.specs.Grammar.{Name, is-host, is-port, is-path, is-query, named, port-number, rules}
+use Rattle.escapes.specs.Resolved.{resolved}
 
 -- "host ignores case"
 abbrev pub lower-all : List ℕ → List ℕ
 lower-all [] = []
 lower-all (b ∷ s) = lower b ∷ lower-all s
-
--- the byte that the hex digits of an escape name
-abbrev pub escaped-byte : (x y : ℕ) → ℕ
-escaped-byte x y = hex-value x * 16 + hex-value y
-
--- "an escape of a letter, a digit or one of `- _ . ! ~ * ' ( )`"
-abbrev pub unneeded? : (x y : ℕ) → Bool
-unneeded? x y = hex? x && (hex? y && unreserved? (escaped-byte x y))
-
--- a text with each such escape as its character; every other byte as it is. In the texts that are read two hex digits follow each `%`.
-abbrev pub resolved : List ℕ → List ℕ
-resolved [] = []
-resolved (a ∷ []) = a ∷ []
-resolved (a ∷ x ∷ []) = a ∷ x ∷ []
-resolved (a ∷ x ∷ y ∷ s) = cond (eqb a (code "%") && unneeded? x y) (escaped-byte x y ∷ resolved s) (a ∷ resolved (x ∷ y ∷ s))
 
 -- The page that a URL names. The path is never absent here: "an absent path equals `/`".
 pub record Page : Type 0 where
@@ -74,3 +59,7 @@ same-query (some s) (some t) = same? s t
 abbrev pub same-page : Page → Page → Bool
 same-page p q =
     same? (p .host) (q .host) && (eqb (p .port) (q .port) && (same? (p .path) (q .path) && same-query (p .query) (q .query)))
+
+-- what comparing two URLs answers
+abbrev pub equality : List ℕ → List ℕ → Comparison Bool
+equality a b = compare same-page (header pages a) (header pages b)

@@ -4,16 +4,13 @@ use mathlib.Core.List.{List}
 use mathlib.Core.Option.{Option, none, some}
 use lib.ListN.{length}
 use Rattle.grammar.specs.Text.{bytes}
-use Rattle.grammar.specs.helpers.Scans.{slice}
 use Rattle.url.specs.declared.Span.{Span}
 use Rattle.url.specs.declared.Place.{Place}
 use Rattle.url.specs.declared.Place.the-variants.{Absent, At}
 use Rattle.url.specs.declared.Url.{Url}
-use Rattle.url_equal.specs.Meaning.{Page, lower-all, resolved}
-
--- the bytes that stand there
-abbrev pub piece : List ℕ → Span → List ℕ
-piece s x = slice s (x .start) (x .start + x .length)
+use Rattle.url.specs.Places.{text-at}
+use Rattle.escapes.specs.Resolved.{resolved}
+use Rattle.url_equal.specs.Meaning.{Page, lower-all}
 
 abbrev pub Inside : List ℕ → Span → Type 0
 Inside s x = x .start + x .length ≤ length s
@@ -24,15 +21,15 @@ Within s (At x) = Inside s x
 
 abbrev pub path-in : List ℕ → Place → List ℕ
 path-in s Absent = bytes "/"
-path-in s (At x) = resolved (piece s x)
+path-in s (At x) = resolved (text-at s x)
 
 abbrev pub query-in : List ℕ → Place → Option (List ℕ)
 query-in s Absent = none
-query-in s (At x) = some (resolved (piece s x))
+query-in s (At x) = some (resolved (text-at s x))
 
 abbrev pub page-in : List ℕ → Url → Page
 page-in s u = record {
-  host = lower-all (piece s (u .host));
+  host = lower-all (text-at s (u .host));
   port = u .port;
   path = path-in s (u .path);
   query = query-in s (u .query);

@@ -1,2 +1,2 @@
 -- For the contracts of helpers and for proofs. Nothing here has to be believed.
-pub mod Units
+pub mod Refusals

@@ -8,6 +8,7 @@ mod plain_date;
 mod ranges;
 mod seconds;
 mod trailers;
+mod urls;
 mod values;
 
 fn main() {
@@ -24,4 +25,6 @@ fn main() {
     seconds::print();
     println!();
     ranges::print();
+    println!();
+    urls::print();
 }

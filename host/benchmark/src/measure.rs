@@ -14,7 +14,7 @@ pub fn timed<A>(run: impl FnOnce() -> A) -> (Duration, A) {
 }
 
 /// The time of so many readings.
-pub fn readings<A>(count: usize, read: impl Fn() -> A) -> Duration {
+pub fn readings<A>(count: usize, mut read: impl FnMut() -> A) -> Duration {
     let read_all = || {
         for _ in 0..count {
             black_box(read());

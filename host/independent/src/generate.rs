@@ -6,6 +6,7 @@ mod dates;
 mod limits;
 mod ranges;
 mod trailers;
+mod urls;
 mod values;
 
 pub use bodies::{any_body, body, frame, rooms};
@@ -20,6 +21,7 @@ pub use trailers::{
     allowed_name, allowed_names, body_with_names, forbidden_name, forbidden_names, trailers_with,
     trailers_with_each_byte,
 };
+pub use urls::{long_urls, other_url, readable_url, respelled_url};
 pub use values::{numbers, pair};
 
 use crate::grammar::Grammar;

@@ -1,5 +1,5 @@
 //! HTTP/1.1 protocol parameters and chunked bodies, written from documents 01 and 02 alone; of the latter
-//! requests (i), (ii), (iii), (iv), (v) and (xii).
+//! requests (i), (ii), (iii), (iv), (v), (x) and (xii).
 //!
 //! Each rule of the document is a grammar value. A matcher follows every alternative of it, which gives the
 //! longest beginning that can still be completed; limits are checked afterwards, over the parts of that

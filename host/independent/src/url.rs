@@ -1,8 +1,9 @@
-//! http URLs (RFC 2616 3.2.2) and their comparison (3.2.3).
+//! http URLs (RFC 2616 3.2.2), their comparison (3.2.3) and, by request (x), their normal form.
 
 use crate::grammar::{any_number, one_or_more, optional, part, Grammar, Name};
+use crate::number::VALUE_TOO_LONG;
 use crate::rules::{digit, number_limit, number_of};
-use crate::{read_both, read_header, Refusal, Refused, Span};
+use crate::{fit, read_both, read_header, Refusal, Refused, Span, HEADER_LIMIT};
 use std::sync::OnceLock;
 use Grammar::{AnyCase, Byte, Exact, OneOf, Seq};
 
@@ -117,4 +118,24 @@ fn meaning(url: Url, input: &[u8]) -> Meaning {
 pub fn equal(first: &[u8], second: &[u8]) -> Result<bool, Refused> {
     let (one, other) = read_both(read, first, second)?;
     Ok(meaning(one, first) == meaning(other, second))
+}
+
+/// The spelling that stands for all URLs of one meaning.
+fn spell(meaning: Meaning) -> Vec<u8> {
+    let port = match meaning.port {
+        DEFAULT_PORT => String::new(),
+        port => format!(":{port}"),
+    };
+    let query = meaning.query.map_or(Vec::new(), |query| [b"?", &query[..]].concat());
+    [b"http://", &meaning.host[..], port.as_bytes(), &meaning.path, &query].concat()
+}
+
+/// "A normal form of 8,193 bytes is refusal 13 at 8,192", as the `/` for an absent path can make it; "A short
+/// output is refusal 8, after any other."
+pub fn normalize(input: &[u8], out_len: usize) -> Result<Vec<u8>, Refusal> {
+    let normal = spell(meaning(read(input)?, input));
+    if normal.len() > HEADER_LIMIT {
+        return Err(Refusal::new(VALUE_TOO_LONG, HEADER_LIMIT));
+    }
+    fit(normal, out_len)
 }

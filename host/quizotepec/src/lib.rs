@@ -65,5 +65,5 @@ pub use products::{products_read, Products};
 pub use ranges::{content_range_write, ranges_read, Range, RangeSet, Ranges};
 pub use refusal::{Refusal, Refused, Which};
 pub use span::Span;
-pub use url::{url_equal, url_read, Url};
+pub use url::{url_equal, url_normalize, url_normalized, url_read, NormalUrl, Url};
 pub use version::{version_compare, version_read, version_write, Version};

@@ -37,7 +37,7 @@ pub const REPEATED_ATTRIBUTE: u8 = 11;
 /// Comment nested deeper than 8; place: the ninth open parenthesis.
 pub const COMMENT_TOO_DEEP: u8 = 12;
 
-/// Header value above 8,192 bytes; place: 8,192.
+/// Header value, or normal form of a URL, above 8,192 bytes; place: 8,192.
 pub const VALUE_TOO_LONG: u8 = 13;
 
 /// Framed body above 1,099,511,627,776 bytes (reader of pieces); place: the byte after that.
@@ -346,7 +346,7 @@ pub struct QzFed {
 /// The version of this header; qz_library_version gives that of the library which is linked.
 pub const VERSION_MAJOR: u32 = 0;
 
-pub const VERSION_MINOR: u32 = 8;
+pub const VERSION_MINOR: u32 = 9;
 
 pub const VERSION_PATCH: u32 = 0;
 
@@ -381,6 +381,7 @@ extern "C" {
     pub fn qz_media_charset_assuming_iso_8859_1(s: *const u8, s_len: usize) -> QzCharset;
     pub fn qz_url_read(s: *const u8, s_len: usize) -> QzUrl;
     pub fn qz_url_equal(a: *const u8, a_len: usize, b: *const u8, b_len: usize) -> QzSame;
+    pub fn qz_url_normalize(s: *const u8, s_len: usize, out: *mut u8, out_len: usize) -> QzWritten;
     pub fn qz_products_read(s: *const u8, s_len: usize) -> QzProducts;
     pub fn qz_chunked_decode(input: *const u8, input_len: usize, out: *mut u8, out_len: usize) -> QzBody;
     pub fn qz_chunked_encode(body: *const u8, body_len: usize, chunk_len: usize, out: *mut u8, out_len: usize) -> QzWritten;

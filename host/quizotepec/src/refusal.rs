@@ -77,7 +77,7 @@ pub enum Refusal {
         /// The ninth open `(`.
         place: usize,
     },
-    /// Refusal 13: a header value above 8,192 bytes.
+    /// Refusal 13: a header value, or the normal form of a URL, above 8,192 bytes.
     ValueTooLong {
         /// Always 8,192.
         place: usize,
@@ -195,7 +195,7 @@ impl Refusal {
             Refusal::TooManyParameters { .. } => "more than 16 parameters or byte ranges",
             Refusal::RepeatedAttribute { .. } => "attribute repeated",
             Refusal::CommentTooDeep { .. } => "comment nested deeper than 8",
-            Refusal::ValueTooLong { .. } => "header value above 8,192 bytes",
+            Refusal::ValueTooLong { .. } => "header value or normal form above 8,192 bytes",
             Refusal::FramedTooLong { .. } => "framed body above 1,099,511,627,776 bytes",
             Refusal::ForbiddenField { .. } => "field that a trailer must not hold",
             Refusal::Unknown { .. } => "refused",

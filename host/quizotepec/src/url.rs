@@ -1,6 +1,11 @@
-use crate::answer::{same, unless_refused};
+use crate::answer::{same, unless_refused, written};
 use crate::raw;
 use crate::{Refusal, Refused, Span};
+use std::borrow::Borrow;
+use std::fmt;
+
+/// The longest normal form.
+const LONGEST_NORMAL: usize = 8_192;
 
 /// An http URL.
 #[derive(Clone, Copy, Debug, PartialEq, Eq, Hash)]
@@ -80,4 +85,102 @@ pub fn url_read(value: &[u8]) -> Result<Url, Refusal> {
 pub fn url_equal(first: &[u8], second: &[u8]) -> Result<bool, Refused> {
     // SAFETY: both pointers are valid for reads of their lengths.
     same(unsafe { raw::qz_url_equal(first.as_ptr(), first.len(), second.as_ptr(), second.len()) })
+}
+
+/// Writes the normal form of a URL and gives its length: scheme and host in lower case, no port 80, any other port
+/// without leading zeros, `/` for an absent path, no escape of a letter, a digit or one of `- _ . ! ~ * ' ( )`. All else
+/// stays as it is: any other escape, its letter case too, and `.` and `..` in a path. It is at most one byte longer than
+/// the URL, by that `/`.
+///
+/// Two URLs that have normal forms are equal exactly where those have the same bytes.
+///
+/// ```
+/// use quizotepec::{url_normalize, Refusal};
+/// let mut out = [0; 64];
+/// let length = url_normalize(b"HTTP://ABC.com:/%7Esmith/home.html", &mut out).unwrap();
+/// assert_eq!(&out[..length], b"http://abc.com/~smith/home.html");
+/// // A URL of 8,192 bytes without a path may be read, but a normal form of 8,193 bytes is refused.
+/// let long = [b"http://".to_vec(), vec![b'a'; 8_185]].concat();
+/// assert_eq!(url_normalize(&long, &mut [0; 8_193]), Err(Refusal::ValueTooLong { place: 8_192 }));
+/// ```
+pub fn url_normalize(value: &[u8], out: &mut [u8]) -> Result<usize, Refusal> {
+    // SAFETY: the pointer is valid for reads of its length, and the output is borrowed alone and valid for writes of
+    // its own.
+    written(unsafe { raw::qz_url_normalize(value.as_ptr(), value.len(), out.as_mut_ptr(), out.len()) })
+}
+
+/// The normal form of a URL, in memory of its own: a key for maps. Equal URLs have one normal form, and different URLs
+/// have different ones.
+///
+/// ```
+/// use quizotepec::NormalUrl;
+/// use std::collections::HashMap;
+/// let mut cache = HashMap::new();
+/// cache.insert(NormalUrl::try_from(&b"http://abc.com/~smith/"[..]).unwrap(), "a page");
+/// let same = quizotepec::url_normalized(b"HTTP://ABC.com:80/%7Esmith/").unwrap();
+/// assert_eq!((same.as_str(), cache.get(&same)), ("http://abc.com/~smith/", Some(&"a page")));
+/// // By the bytes of a normal form that is at hand.
+/// assert_eq!(cache.get(&b"http://abc.com/~smith/"[..]), Some(&"a page"));
+/// ```
+#[derive(Clone, PartialEq, Eq, Hash, PartialOrd, Ord)]
+pub struct NormalUrl(Box<[u8]>);
+
+impl NormalUrl {
+    /// Its bytes, at most 8,192.
+    pub fn as_bytes(&self) -> &[u8] {
+        &self.0
+    }
+
+    /// The same as text: a URL that is read has no byte above 126.
+    pub fn as_str(&self) -> &str {
+        std::str::from_utf8(&self.0).unwrap_or_default()
+    }
+}
+
+impl fmt::Debug for NormalUrl {
+    fn fmt(&self, f: &mut fmt::Formatter<'_>) -> fmt::Result {
+        f.debug_tuple("NormalUrl").field(&self.as_str()).finish()
+    }
+}
+
+impl fmt::Display for NormalUrl {
+    fn fmt(&self, f: &mut fmt::Formatter<'_>) -> fmt::Result {
+        f.write_str(self.as_str())
+    }
+}
+
+impl AsRef<[u8]> for NormalUrl {
+    fn as_ref(&self) -> &[u8] {
+        &self.0
+    }
+}
+
+/// Lawful, since equality, order and hash are those of the bytes.
+impl Borrow<[u8]> for NormalUrl {
+    fn borrow(&self) -> &[u8] {
+        &self.0
+    }
+}
+
+impl TryFrom<&[u8]> for NormalUrl {
+    type Error = Refusal;
+
+    /// As [`url_normalized`].
+    fn try_from(value: &[u8]) -> Result<Self, Refusal> {
+        url_normalized(value)
+    }
+}
+
+/// The normal form of a URL, as [`url_normalize`] writes it.
+///
+/// ```
+/// use quizotepec::{url_normalized, Refusal};
+/// assert_eq!(url_normalized(b"http://A:08080").unwrap().as_bytes(), b"http://a:8080/");
+/// assert_eq!(url_normalized(b"http://a?x"), Err(Refusal::Malformed { place: 8 }));
+/// ```
+pub fn url_normalized(value: &[u8]) -> Result<NormalUrl, Refusal> {
+    let mut bytes = vec![0; (value.len() + 1).min(LONGEST_NORMAL)];
+    let length = url_normalize(value, &mut bytes)?;
+    bytes.truncate(length);
+    Ok(NormalUrl(bytes.into_boxed_slice()))
 }

@@ -1,4 +1,5 @@
-//! What the crate adds to the library: versions as text, instants as system times, the bytes of a part and of a range.
+//! What the crate adds to the library: versions as text, instants as system times, the bytes of a part and of a range,
+//! normal forms of URLs as keys.
 
 mod common;
 
@@ -8,9 +9,12 @@ use independent::date::{DAY_NAMES, EARLIEST, LATEST, LENGTH};
 use independent::generate::{any, instant, numbers, pair, present_year, rfc850_date, Kind, Rng};
 use quizotepec::{
     date_read, date_read_at, date_read_now, date_write, date_write_time, etag_read, language_read,
-    media_charset, media_read, ranges_read, url_read, version_compare, version_read, version_write, Charset,
-    Date, Range, Ranges, Refusal, Span, Version, FIRST_PRESENT_YEAR, LAST_PRESENT_YEAR,
+    media_charset, media_read, ranges_read, url_normalized, url_read, version_compare, version_read,
+    version_write, Charset, Date, NormalUrl, Range, Ranges, Refusal, Span, Version, FIRST_PRESENT_YEAR,
+    LAST_PRESENT_YEAR,
 };
+use std::borrow::Borrow;
+use std::collections::{BTreeSet, HashSet};
 use std::ops::RangeInclusive;
 use std::time::{Duration, SystemTime, UNIX_EPOCH};
 
@@ -276,4 +280,28 @@ fn parts_in_the_value_that_was_read() {
     assert_eq!((url.path_in(value), url.query_in(value)), (Some(&b"/~smith/home.html"[..]), Some(&b""[..])));
     let url = url_read(b"http://a").unwrap();
     assert_eq!((url.path_in(b"http://a"), url.query_in(b"http://a")), (None, None));
+}
+
+/// Equal URLs are one key, by hash and by order, and different ones are several.
+#[test]
+fn normal_urls_as_keys() {
+    let urls: [&[u8]; 6] =
+        [b"http://a", b"HTTP://A:80/", b"http://a:/?", b"http://a/%41", b"http://a/A", b"http://a/a"];
+    let forms: Vec<NormalUrl> = urls.iter().map(|url| url_normalized(url).unwrap()).collect();
+    let texts: Vec<String> = forms.iter().map(NormalUrl::to_string).collect();
+    assert_eq!(texts, ["http://a/", "http://a/", "http://a/?", "http://a/A", "http://a/A", "http://a/a"]);
+    assert_eq!(forms.iter().collect::<HashSet<_>>().len(), 4);
+    assert!(forms.iter().collect::<BTreeSet<_>>().iter().map(|form| form.as_str()).eq([
+        "http://a/",
+        "http://a/?",
+        "http://a/A",
+        "http://a/a"
+    ]));
+    for (form, text) in forms.iter().zip(&texts) {
+        let (borrowed, lent): (&[u8], &[u8]) = (form.borrow(), form.as_ref());
+        assert_eq!((form.as_bytes(), borrowed, lent), (text.as_bytes(), text.as_bytes(), text.as_bytes()));
+        assert_eq!(format!("{form:?}"), format!("NormalUrl({text:?})"));
+        assert_eq!(NormalUrl::try_from(text.as_bytes()).as_ref(), Ok(form));
+    }
+    assert_eq!(NormalUrl::try_from(&b"http://a?x"[..]), Err(Refusal::Malformed { place: 8 }));
 }

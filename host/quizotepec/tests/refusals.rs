@@ -20,7 +20,7 @@ const MEANINGS: [&str; 15] = [
     "more than 16 parameters or byte ranges",
     "attribute repeated",
     "comment nested deeper than 8",
-    "header value above 8,192 bytes",
+    "header value or normal form above 8,192 bytes",
     "framed body above 1,099,511,627,776 bytes",
     "field that a trailer must not hold",
 ];

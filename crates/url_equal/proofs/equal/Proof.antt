@@ -12,7 +12,7 @@ use Rattle.url.specs.declared.Reading.the-variants.{Refused}
 use Rattle.url.specs.Grammar.{rules}
 use Rattle.url_equal.specs.Meaning.{same-page, pages}
 use Rattle.url.specs.Reading.{verdict}
-use Rattle.url_equal.specs.helpers.Units.{refusal-of}
+use Rattle.url_equal.specs.helpers.Refusals.{refusal-of}
 use Rattle.url_equal.proofs.Meaning.{means, means-nothing}
 use Rattle.url_equal.proofs.equal.Statement.{statement}
 use Rattle.url_equal.proofs.equal.Tie as tie
@@ -39,15 +39,6 @@ returns-2 c =
     let m = means (x .a .now) _ (sym (e .read .ensures) ∙ ap verdict (d .before .before .first .given .1)) in
     let r = refused-as (x .b .now) (d .read2 .result) (c .refusal2 .result) _ (d .read2 .ensures) (c .before .enum-told2 .given .1) (c .refusal2 .ensures) in
     sym (ap₂ (compare same-page) (m .1) r)
-
-same-url-requires : tie.Need-same-url-requires
-same-url-requires c κs =
-    let d = c .before .before .before in
-    let e = d .before .before .before .before in
-    let x = e .before .before .before .args in (
-      means (x .a .now) _ (sym (e .read .ensures) ∙ ap verdict (d .before .before .first .given .1)) .0,
-      means (x .b .now) _ (sym (d .read2 .ensures) ∙ ap verdict (c .before .second .given .1)) .0,
-    )
 
 returns-3 : tie.Need-returns-3
 returns-3 c =
@@ -83,6 +74,6 @@ equal-spec =
     (λ c. search needs)
     (λ c κs. search needs)
     returns-2
-    same-url-requires
+    (λ c κs. search needs)
     returns-3
     returns-4)

@@ -1,7 +1,7 @@
 -- `url_equal::refusal` meets its contract.
 use borrow.Author.Needs.{needs}
 use mathlib.Core.Path.{sym, ap}
-use Rattle.url_equal.specs.helpers.Units.{refusal-of}
+use Rattle.url_equal.specs.helpers.Refusals.{refusal-of}
 use Rattle.url_equal.proofs.refusal.Statement.{statement}
 use Rattle.url_equal.proofs.refusal.Tie as tie
 

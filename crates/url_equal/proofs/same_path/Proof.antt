@@ -1,32 +1,12 @@
 -- `url_equal::same_path` meets its contract: by the cases of both paths.
 use borrow.Author.Needs.{needs}
-use mathlib.Core.Path.{sym, ap, ap₂, subst, _∙_}
+use mathlib.Core.Path.{sym, ap, ap₂, _∙_}
 use mathlib.Core.List.{[], _∷_}
 use Rattle.octets.specs.Same.{same?}
-use Rattle.url_equal.specs.Meaning.{resolved}
-use Rattle.url_equal.specs.Places.{Within, path-in}
+use Rattle.escapes.specs.Resolved.{resolved}
+use Rattle.url_equal.specs.Places.{path-in}
 use Rattle.url_equal.proofs.same_path.Statement.{statement}
 use Rattle.url_equal.proofs.same_path.Tie as tie
-
-part-requires : tie.Need-part-requires
-part-requires c κs =
-    let z = c .before .before .before .before .before .before .before .before in
-    subst (Within (z .args .b .now)) (c .before .before .place-b .given .1) (z .pre .1)
-
-part-requires-2 : tie.Need-part-requires-2
-part-requires-2 c κs =
-    let z = c .before .before .before .before .before .before .before in
-    subst (Within (z .args .a .now)) (c .before .before .before .place-a .given .1) (z .pre .0)
-
-part-requires-3 : tie.Need-part-requires-3
-part-requires-3 c κs =
-    let z = c .before .before .before .before .before .before .before .before in
-    subst (Within (z .args .a .now)) (c .before .before .before .before .place-a .given .1) (z .pre .0)
-
-part-requires-4 : tie.Need-part-requires-4
-part-requires-4 c κs =
-    let z = c .before .before .before .before .before .before .before .before .before in
-    subst (Within (z .args .b .now)) (c .before .before .place-b2 .given .1) (z .pre .1)
 
 returns : tie.Need-returns
 returns c =
@@ -38,7 +18,7 @@ returns-2 c =
     let d = c .before .before .before .before in
     let e = d .before .before in
     let x = e .before .before .before .before .args in
-    c .same-text .ensures ∙ ap (λ t. same? (resolved (47 ∷ [])) (resolved t)) (c .before .part .ensures)
+    c .same .ensures ∙ ap (λ t. same? (resolved (47 ∷ [])) (resolved t)) (c .before .text-at .ensures)
     ∙ sym (ap₂ same? (ap (path-in (x .a .now)) (e .enum-told .given .1)) (ap (path-in (x .b .now)) (d .place-b .given .1)))
 
 returns-3 : tie.Need-returns-3
@@ -46,7 +26,7 @@ returns-3 c =
     let d = c .before .before .before in
     let e = d .before .before .before in
     let x = e .before .before .before .before .args in
-    c .same-text2 .ensures ∙ ap (λ t. same? (resolved t) (resolved (47 ∷ []))) (c .before .before .part2 .ensures)
+    c .same2 .ensures ∙ ap (λ t. same? (resolved t) (resolved (47 ∷ []))) (c .before .before .text-at2 .ensures)
     ∙ sym (ap₂ same? (ap (path-in (x .a .now)) (e .place-a .given .1)) (ap (path-in (x .b .now)) (d .enum-told3 .given .1)))
 
 returns-4 : tie.Need-returns-4
@@ -54,7 +34,7 @@ returns-4 c =
     let d = c .before .before .before .before in
     let e = d .before .before .before in
     let x = e .before .before .before .before .args in
-    c .same-text3 .ensures ∙ ap₂ (λ t u. same? (resolved t) (resolved u)) (c .before .before .part3 .ensures) (c .before .part4 .ensures)
+    c .same3 .ensures ∙ ap₂ (λ t u. same? (resolved t) (resolved u)) (c .before .before .text-at3 .ensures) (c .before .text-at4 .ensures)
     ∙ sym (ap₂ same? (ap (path-in (x .a .now)) (e .place-a .given .1)) (ap (path-in (x .b .now)) (d .place-b2 .given .1)))
 
 pub same-path-spec : {M : Type 1} → statement M
@@ -65,16 +45,16 @@ same-path-spec =
     (λ c. search needs)
     (λ c. search needs)
     (λ c. search needs)
-    part-requires
+    (λ c κs. search needs)
     (λ c κs. search needs)
     (λ c. search needs)
     (λ c. search needs)
-    part-requires-2
+    (λ c κs. search needs)
     (λ c. search needs)
     (λ c κs. search needs)
     (λ c. search needs)
-    part-requires-3
-    part-requires-4
+    (λ c κs. search needs)
+    (λ c κs. search needs)
     (λ c κs. search needs)
     returns
     returns-2

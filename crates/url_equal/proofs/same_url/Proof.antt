@@ -11,7 +11,7 @@ returns c =
     let d = c .before in
     let x = d .before .before .before .before .before .before .before .args in
     let f = d .same-ignoring-case in
-    let h = host-compared (x .a .now) (x .b .now) (x .u) (x .v) _ _ (f .result) (d .before .before .part .ensures) (d .before .part2 .ensures) (f .ensures) in
+    let h = host-compared (x .a .now) (x .b .now) (x .u) (x .v) _ _ (f .result) (d .before .before .text-at .ensures) (d .before .text-at2 .ensures) (f .ensures) in
     by-host (x .a .now) (x .b .now) (x .u) (x .v) (h ∙ not-true (f .result) (c .if1 .taken))
 
 returns-2 : tie.Need-returns-2
@@ -19,7 +19,7 @@ returns-2 c =
     let d = c .before .before .before .before in
     let x = d .before .before .before .before .before .before .before .args in
     let f = d .same-ignoring-case in
-    let h = host-compared (x .a .now) (x .b .now) (x .u) (x .v) _ _ (f .result) (d .before .before .part .ensures) (d .before .part2 .ensures) (f .ensures) in
+    let h = host-compared (x .a .now) (x .b .now) (x .u) (x .v) _ _ (f .result) (d .before .before .text-at .ensures) (d .before .text-at2 .ensures) (f .ensures) in
     by-port (x .a .now) (x .b .now) (x .u) (x .v) (h ∙ not-false (f .result) (c .before .before .before .if1 .left)) (c .if2 .taken)
 
 returns-3 : tie.Need-returns-3
@@ -27,7 +27,7 @@ returns-3 c =
     let d = c .before .before .before .before .before .before in
     let x = d .before .before .before .before .before .before .before .args in
     let f = d .same-ignoring-case in
-    let h = host-compared (x .a .now) (x .b .now) (x .u) (x .v) _ _ (f .result) (d .before .before .part .ensures) (d .before .part2 .ensures) (f .ensures) in
+    let h = host-compared (x .a .now) (x .b .now) (x .u) (x .v) _ _ (f .result) (d .before .before .text-at .ensures) (d .before .text-at2 .ensures) (f .ensures) in
     let g = c .before .before in
     by-path (x .a .now) (x .b .now) (x .u) (x .v) (h ∙ not-false (f .result) (g .before .before .before .if1 .left)) (g .if2 .left)
     (sym (c .before .same-path .ensures) ∙ not-true (c .before .same-path .result) (c .if3 .taken))
@@ -37,7 +37,7 @@ returns-4 c =
     let d = c .before .before .before .before .before .before .before in
     let x = d .before .before .before .before .before .before .before .args in
     let f = d .same-ignoring-case in
-    let h = host-compared (x .a .now) (x .b .now) (x .u) (x .v) _ _ (f .result) (d .before .before .part .ensures) (d .before .part2 .ensures) (f .ensures) in
+    let h = host-compared (x .a .now) (x .b .now) (x .u) (x .v) _ _ (f .result) (d .before .before .text-at .ensures) (d .before .text-at2 .ensures) (f .ensures) in
     let g = c .before .before .before in
     let p = c .before .before .same-path in
     c .same-query .ensures

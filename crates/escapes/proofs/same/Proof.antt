@@ -1,4 +1,4 @@
--- `url_equal::same_text` meets its contract: what is left of both is the same just where the whole is.
+-- `escapes::same` meets its contract: what is left of both is the same just where the whole is.
 use Prim.Native.Nat.{_-_, _≤_}
 use native.Mathlib.Omega.{arith}
 use borrow.Author.Needs.{needs}
@@ -6,10 +6,10 @@ use borrow.Author.Tests.{ne-eqb, eq-eqb}
 use mathlib.Core.Path.{_≡_, refl, sym, ap₂, _∙_}
 use lib.ListN.{length, drop}
 use Rattle.octets.specs.Same.{same?}
-use Rattle.url_equal.specs.Meaning.{resolved}
-use Rattle.url_equal.proofs.Resolved.{both-ended, first-longer}
-use Rattle.url_equal.proofs.same_text.Statement.{statement}
-use Rattle.url_equal.proofs.same_text.Tie as tie
+use Rattle.escapes.specs.Resolved.{resolved}
+use Rattle.escapes.proofs.Resolved.{both-ended, first-longer}
+use Rattle.escapes.proofs.same.Statement.{statement}
+use Rattle.escapes.proofs.same.Tie as tie
 
 abbrev Inv-loop : tie.InvT-loop
 Inv-loop a b i₀ j₀ i j = (i ≤ length a) × (j ≤ length b) × (same? (resolved (drop i a)) (resolved (drop j b)) ≡ same? (resolved a) (resolved b))
@@ -56,8 +56,8 @@ returns-3 c =
     let x = c .before .before .before .before .args in
     both-ended (x .a .now) (x .b .now) (l .i) (l .j) (c .loop-test .left) ∙ l .inv .2
 
-pub same-text-spec : {M : Type 1} → statement M
-same-text-spec =
+pub same-spec : {M : Type 1} → statement M
+same-spec =
     tie.close
     (tie.spec
     Inv-loop

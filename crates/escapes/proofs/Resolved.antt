@@ -2,18 +2,18 @@
 use Prim.Native.Nat.{ℕ, suc, _+_, _-_, _≤_, _<_}
 use native.Mathlib.Omega.{arith}
 use native.Mathlib.Numerals.{add-one}
-use borrow.Author.Tests.{ne-eqb, eq-eqb, leb-true, leb-false}
+use borrow.Author.Tests.{ne-eqb, eq-eqb, eqb-false, leb-true, leb-false}
 use mathlib.Core.Path.{_≡_, refl, sym, ap, _∙_}
-use mathlib.Core.Bool.{Bool, true, false, cond, _&&_, true≢false}
-use mathlib.Core.List.{List, [], _∷_}
+use mathlib.Core.Bool.{Bool, true, false, cond, _&&_, _||_, true≢false}
+use mathlib.Core.List.{List, [], _∷_, head-eq-of-cons-eq, tail-eq-of-cons-eq}
 use lib.Dec.{eqb, leb}
 use lib.ListN.{length, getD, drop, drop-of-length-le, length-drop}
 use lib.Seq.{drop-cons}
 use Rattle.octets.specs.Bytes.{digit?, letter?, hex?}
 use Rattle.octets.specs.Same.{same?}
 use Rattle.url.specs.Bytes.{unreserved?}
-use Rattle.url_equal.specs.Meaning.{escaped-byte, unneeded?, resolved}
-use Rattle.url_equal.specs.helpers.Units.{Resolves}
+use Rattle.escapes.specs.Resolved.{escaped-byte, unneeded?, resolved}
+use Rattle.escapes.specs.helpers.Units.{Resolves, percent?}
 
 -- a byte that begins no escape, and one that is not needed
 pub character-first : (a : ℕ) (t : List ℕ) → (a ≡ 37 → ⊥) → resolved (a ∷ t) ≡ a ∷ resolved t
@@ -114,15 +114,80 @@ percent-reserved : unreserved? 37 ≡ false
 unfolding unreserved? letter? digit?
 percent-reserved = refl
 
+pub last-of : (a b c : Bool) → (a && (b && c)) ≡ true → c ≡ true
+last-of true true c e = e
+last-of true false c e = absurd (true≢false (sym e))
+last-of false b c e = absurd (true≢false (sym e))
+
 -- an escape that is not needed, and its character
 pub escape-no-percent : (x y : ℕ) → unneeded? x y ≡ true → escaped-byte x y ≡ 37 → ⊥
 escape-no-percent x y e f =
     true≢false (sym (last-of (hex? x) (hex? y) (unreserved? (escaped-byte x y)) e) ∙ ap unreserved? f ∙ percent-reserved)
-  where
-    last-of : (a b c : Bool) → (a && (b && c)) ≡ true → c ≡ true
-    last-of true true c e = e
-    last-of true false c e = absurd (true≢false (sym e))
-    last-of false b c e = absurd (true≢false (sym e))
 
 pub escape-is : (x y : ℕ) (t : List ℕ) → unneeded? x y ≡ true → resolved (37 ∷ x ∷ y ∷ t) ≡ resolved (escaped-byte x y ∷ t)
 escape-is x y t h = unneeded-first 37 x y t refl h ∙ sym (character-first (escaped-byte x y) t (escape-no-percent x y h))
+
+-- ## How long
+
+pub resolved-short : (s : List ℕ) → length (resolved s) ≤ length s
+resolved-short [] = omega arith
+resolved-short (a ∷ []) = omega arith
+resolved-short (a ∷ x ∷ []) = omega arith
+resolved-short (a ∷ x ∷ y ∷ t) = go (eqb a 37 && unneeded? x y) (resolved-short t) (resolved-short (x ∷ y ∷ t))
+  where
+    go : (u : Bool) → length (resolved t) ≤ length t → length (resolved (x ∷ y ∷ t)) ≤ suc (suc (length t))
+        → length (cond u (escaped-byte x y ∷ resolved t) (a ∷ resolved (x ∷ y ∷ t))) ≤ suc (suc (suc (length t)))
+    go true h k = omega arith
+    go false h k = omega arith
+
+-- a text that grows no shorter has nothing to resolve
+pub unchanged : (s : List ℕ) → length (resolved s) ≡ length s → resolved s ≡ s
+unchanged [] e = refl
+unchanged (a ∷ []) e = refl
+unchanged (a ∷ x ∷ []) e = refl
+unchanged (a ∷ x ∷ y ∷ t) e = go (eqb a 37 && unneeded? x y) (unchanged (x ∷ y ∷ t)) e
+  where
+    go : (u : Bool) → (length (resolved (x ∷ y ∷ t)) ≡ suc (suc (length t)) → resolved (x ∷ y ∷ t) ≡ x ∷ y ∷ t)
+        → length (cond u (escaped-byte x y ∷ resolved t) (a ∷ resolved (x ∷ y ∷ t))) ≡ suc (suc (suc (length t)))
+        → cond u (escaped-byte x y ∷ resolved t) (a ∷ resolved (x ∷ y ∷ t)) ≡ a ∷ x ∷ y ∷ t
+    go true h f = absurd (omega (arith, resolved-short t))
+    go false h f = ap (λ (l : List ℕ). a ∷ l) (h (omega arith))
+
+-- ## A text without `%`
+
+pub no-percent : (s : List ℕ) → percent? s ≡ false → resolved s ≡ s
+no-percent [] e = refl
+no-percent (b ∷ s) e = go (eqb b 37) refl e (no-percent s)
+  where
+    go : (t : Bool) → eqb b 37 ≡ t → (t || percent? s) ≡ false → (percent? s ≡ false → resolved s ≡ s) → resolved (b ∷ s) ≡ b ∷ s
+    go true f g h = absurd (true≢false g)
+    go false f g h = character-first b s (eqb-false b 37 f) ∙ ap (λ (l : List ℕ). b ∷ l) (h g)
+
+-- looked for a byte at a time
+module _ (s : List ℕ) (i : ℕ) (found : Bool) (at : i < length s) (inv : (found || percent? (drop i s)) ≡ percent? s) where
+  split : (found || (eqb (getD s i 0) 37 || percent? (drop (i + 1) s))) ≡ percent? s
+  split = ap (λ (l : List ℕ). found || percent? l) (sym (cons s i at)) ∙ inv
+
+  pub percent-here : getD s i 0 ≡ 37 → true ≡ percent? s
+  percent-here e = go found (eqb (getD s i 0) 37) (eq-eqb (getD s i 0) 37 e) split
+    where
+      go : (x y : Bool) → y ≡ true → (x || (y || percent? (drop (i + 1) s))) ≡ percent? s → true ≡ percent? s
+      go true y f g = g
+      go false y f g = sym (rw f refl) ∙ g
+
+  pub percent-not-here : (getD s i 0 ≡ 37 → ⊥) → (found || percent? (drop (i + 1) s)) ≡ percent? s
+  percent-not-here h = ap (λ (t : Bool). found || (t || percent? (drop (i + 1) s))) (sym (ne-eqb (getD s i 0) 37 h)) ∙ split
+
+-- ## As it is put, a byte at a time
+
+-- what is left of a text begins with a byte
+pub record First (t rest : List ℕ) (k b : ℕ) : Type 0 where
+  pub at : k < length t
+  pub is : getD t k 0 ≡ b
+  pub left : drop (k + 1) t ≡ rest
+
+pub first-of : (t rest : List ℕ) (k b : ℕ) → drop k t ≡ b ∷ rest → First t rest k b
+first-of t rest k b e =
+    let h : k < length t = omega (arith, ap length e, length-drop k t) in
+    let f : getD t k 0 ∷ drop (k + 1) t ≡ b ∷ rest = sym (cons t k h) ∙ e in
+    record { at = h; is = head-eq-of-cons-eq f; left = tail-eq-of-cons-eq f }

@@ -1,4 +1,4 @@
--- `url_equal::unit_at` meets its contract: the byte is kept, or an escape that is not needed is taken out.
+-- `escapes::unit_at` meets its contract: the byte is kept, or an escape that is not needed is taken out.
 use Prim.Native.Nat.{ℕ, _+_, _*_, _≤_, _<_}
 use native.Mathlib.Omega.{arith}
 use borrow.Author.Needs.{needs}
@@ -9,11 +9,11 @@ use lib.ListN.{getD}
 use Rattle.octets.specs.Bytes.{hex?, hex-value}
 use Rattle.octets.proofs.Bytes.{is-hex, no-hex}
 use Rattle.url.specs.Bytes.{unreserved?}
-use Rattle.url_equal.specs.Meaning.{escaped-byte, unneeded?}
-use Rattle.url_equal.proofs.Tables.{unreserved-bits}
-use Rattle.url_equal.proofs.Resolved.{kept-character, kept-short, kept-needed, taken-out}
-use Rattle.url_equal.proofs.unit_at.Statement.{statement}
-use Rattle.url_equal.proofs.unit_at.Tie as tie
+use Rattle.escapes.specs.Resolved.{escaped-byte, unneeded?}
+use Rattle.escapes.proofs.Tables.{unreserved-bits}
+use Rattle.escapes.proofs.Resolved.{kept-character, kept-short, kept-needed, taken-out}
+use Rattle.escapes.proofs.unit_at.Statement.{statement}
+use Rattle.escapes.proofs.unit_at.Tie as tie
 
 first-fails : (x y : ℕ) → hex? x ≡ false → unneeded? x y ≡ false
 first-fails x y e = rw e

@@ -1,0 +1,4 @@
+pub mod Tables
+pub mod Resolved
+pub mod Escapes
+pub mod Demands

@@ -1,0 +1,10 @@
+pub mod Writer
+pub mod Answers
+pub mod Spelling
+pub mod Normal
+pub mod Back
+pub mod Exact
+pub mod Lengths
+pub mod Refusals
+pub mod Demands
+pub mod Examples
