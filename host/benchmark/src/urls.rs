@@ -28,7 +28,7 @@ pub fn print() {
     for (name, url) in [
         ("31 bytes, normal", "http://abc.com/~smith/home.html".to_string()),
         ("34 bytes, not so", "HTTP://ABC.com:/%7Esmith/home.html".to_string()),
-        ("82 bytes, with query", format!("http://www.abc.com:8080/{}?q=%2Fa%7Eb&r=c", "path/to/".repeat(5))),
+        ("79 bytes, with query", format!("http://www.abc.com:8080/{}?q=%2Fa%7Eb&r=c", "path/to/".repeat(5))),
         ("8 KB of path", format!("http://abc.com/{}", "smith/".repeat(1_360))),
         ("8 KB of escapes", format!("http://abc.com/{}", "%7e".repeat(2_720))),
     ] {
