@@ -18,10 +18,11 @@ const ROOM: usize = 16384;
 // The bytes of a line that are kept: one more than a good line may have.
 const LINE_LENGTH: usize = 32769;
 
-// How much is read at once, and the room for its text: no line says more than 16 bytes.
-const PIECE: usize = 4096;
+// How much is read at once, and the room for its text: no line says more than 16 bytes. With 4,096 long lines take 1.16 times as long; with
+// more than this they gain little, and each run clears more room.
+const PIECE: usize = 16384;
 
-const TEXT: usize = 65552;
+const TEXT: usize = 262160;
 
 // What a piece of the input leaves: the bytes held of a line that it began, and the length of the text.
 struct Progress {

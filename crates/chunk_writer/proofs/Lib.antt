@@ -1,5 +1,6 @@
 pub mod Cuts
 pub mod Puts
+pub mod Lines
 pub mod Answers
 pub mod Bodies
 pub mod ReadsBack

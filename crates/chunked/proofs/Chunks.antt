@@ -1,6 +1,5 @@
 -- Over a chunk at a stroke: its line, where that is known to be one, its data, and the CR LF behind it.
-use mathlib.Core.Path.{_≡_, sym, _∙_, ap, subst}
-use mathlib.Core.Bool.{true}
+use mathlib.Core.Path.{_≡_, sym, _∙_, subst}
 use mathlib.Core.List.{List, [], _∷_}
 use mathlib.Core.Option.{some}
 use Prim.Native.Nat.{ℕ, _+_, _-_, _<_, _≤_}
@@ -12,11 +11,15 @@ use Rattle.framing.specs.Answer as Framing
 use Rattle.framing.specs.declared.LinePos.the-variants.{First}
 use Rattle.framing.specs.declared.State.the-variants.{Line, Data, DataCr, DataLf}
 use Rattle.framing.specs.Reading.{decode}
-use Rattle.octets.specs.Same.{same?}
-use Rattle.octets.proofs.SameBytes.{same-list}
-use Rattle.chunked.specs.declared.LastLine.{LastLine}
+use Rattle.chunked.specs.Verdict.{verdict}
+use Rattle.chunked.specs.declared.Answer.{Answer}
+use Rattle.chunked.specs.declared.Answer.the-variants.{Whole, More, Refused}
+use Rattle.chunked.specs.declared.Ending.{Ending}
+use Rattle.chunked.specs.declared.Ending.the-variants as Ending
+use Rattle.chunked.specs.declared.ChunkLine.{ChunkLine}
 use Rattle.chunked.specs.declared.Found.the-variants as Found
 use Rattle.chunked.specs.helpers.Passes.{At, LineAt, LineRead, Known, CrlfAt, ChunkAt, ChunkRead}
+use Rattle.chunked.specs.helpers.Passes.{Plain, SameAt, ChunksTo, no-chunk, chunk-then, InChunks, ending-answer}
 use Rattle.framing.proofs.Passing.{Passes, octets-part, passes-size, passes-data, passes-part}
 use Rattle.chunked.proofs.Passes.{at-next, at-more, at-refuse, at-along, data-fits}
 use Rattle.framing.proofs.Turns as Turns
@@ -81,30 +84,29 @@ module _ {room : ℕ} {xs : List ℕ} where
 -- ## Chunks with one line
 module _ {xs : List ℕ} where
   pub none-known : Known xs (record { at = 0; length = 0; size = 0 })
-  none-known = record { inside = omega arith; line = λ h. absurd (omega arith) }
+  none-known = record { inside = λ h. absurd (omega arith); line = λ h. absurd (omega arith) }
+
+  -- a line that is not to be compared
+  pub left-known : {i v : ℕ} → Known xs (record { at = i; length = 0; size = v })
+  left-known = record { inside = λ h. absurd (omega arith); line = λ h. absurd (omega arith) }
+
+  pub none-plain : {i left : ℕ} → Plain xs i left (record { at = 0; length = 0; size = 0 })
+  none-plain = (none-known, λ h. absurd (omega arith))
 
   pub chunk-known : {i w v : ℕ} → ChunkAt xs i w v → Known xs (record { at = i; length = w; size = v })
-  chunk-known {i} {w} {v} c = record { inside = omega (arith, c .end .inside); line = λ _. (c .some, c .line) }
+  chunk-known {i} {w} {v} c = record { inside = λ _. omega (arith, c .end .inside); line = λ _. (c .some, c .line) }
 
   -- the same bytes are the same line
-  pub same-chunk : {last : LastLine} {i : ℕ} → Known xs last → 0 < last .length → CrlfAt xs (i + (last .length + last .size))
-      → same? (take (last .at + last .length - last .at) (drop (last .at) xs)) (take (i + last .length - i) (drop i xs)) ≡ true
-      → ChunkAt xs i (last .length) (last .size)
-  same-chunk {last} {i} known h end s =
-      let p : ℕ = last .at in
-      let w : ℕ = last .length in
-      let v : ℕ = last .size in
-      let e : take (p + w - p) (drop p xs) ≡ take (i + w - i) (drop i xs)
-      = same-list (take (p + w - p) (drop p xs)) (take (i + w - i) (drop i xs)) s in
-      let a : w ≡ p + w - p = omega arith in
-      let b : i + w - i ≡ w = omega arith in
-      let l : (0 < v) × LineAt xs p w v (13 ∷ 10 ∷ []) = known .line h in
+  pub same-chunk : {last : ChunkLine} {i : ℕ} → Known xs last → 0 < last .length → CrlfAt xs (i + (last .length + last .size))
+      → SameAt xs (last .at) i (last .length) → ChunkAt xs i (last .length) (last .size)
+  same-chunk {last} {i} known h end same =
+      let l : (0 < last .size) × LineAt xs (last .at) (last .length) (last .size) (13 ∷ 10 ∷ []) = known .line h in
       record {
         some = l .0;
         line = record {
           inside = omega (arith, end .inside);
           text = l .1 .text;
-          split = ap (λ (k : ℕ). take k (drop i xs)) (sym b) ∙ sym e ∙ ap (λ (k : ℕ). take k (drop p xs)) (sym a) ∙ l .1 .split;
+          split = sym same ∙ l .1 .split;
           line = l .1 .line;
           short = l .1 .short;
         };
@@ -127,3 +129,29 @@ pub read-chunk-on : {room : ℕ} {xs : List ℕ} {i t v j : ℕ} → ((k : ℕ) 
 read-chunk-on {room} {xs} {i} {t} {v} {j} bytes at h fits c =
     let k : i + (j - i) + v + 2 ≡ j + v + 2 = omega arith in
     subst (At room xs (Line First 0 (t + v))) k (chunk-on bytes at c fits)
+
+-- ## Chunks one after the other
+module _ {xs : List ℕ} where
+  pub chunk-more : {i j n w v : ℕ} → ChunksTo xs i j n → ChunkAt xs j w v → ChunksTo xs i (j + w + v + 2) (n + v)
+  chunk-more {i} {w = w} {v = v} no-chunk c =
+      let e : v + 0 ≡ 0 + v = omega arith in
+      subst (ChunksTo xs i (i + w + v + 2)) e (chunk-then c no-chunk)
+  chunk-more {i} {j} {w = w} {v = v} (chunk-then {v = u} {n = m} d h) c =
+      let e : u + (m + v) ≡ u + m + v = omega arith in
+      subst (ChunksTo xs i (j + w + v + 2)) e (chunk-then d (chunk-more h c))
+
+  pub read-chunk-more : {i j k n v : ℕ} → ChunksTo xs i j n → j ≤ k → ChunkAt xs j (k - j) v → ChunksTo xs i (k + v + 2) (n + v)
+  read-chunk-more {i} {j} {k} {n} {v} h le c =
+      let e : j + (k - j) + v + 2 ≡ k + v + 2 = omega arith in
+      subst (λ (m : ℕ). ChunksTo xs i m (n + v)) e (chunk-more h c)
+
+  -- what ends so behind chunks is told of them
+  pub in-chunks : {room i t : ℕ} (a : Answer) (e : Ending) → verdict a ≡ ending-answer t e → t ≤ room → ChunksTo xs 0 i t
+      → InChunks room xs a
+  in-chunks {i = i} {t = t} (Whole w) (Ending.Whole n k) z f h =
+      let l : t ≡ w .length = cc in
+      (omega arith, (i, subst (ChunksTo xs 0 i) l h))
+  in-chunks (Whole w) Ending.More z f h = let y : _≡_ {A = ℕ} 0 1 = cc in absurd (omega arith)
+  in-chunks (Whole w) (Ending.Refused r) z f h = let y : _≡_ {A = ℕ} 0 1 = cc in absurd (omega arith)
+  in-chunks More e z f h = tt
+  in-chunks (Refused r) e z f h = tt

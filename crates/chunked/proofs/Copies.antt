@@ -1,12 +1,12 @@
 -- What the second pass has written, and that a whole answer leaves nothing out.
 use mathlib.Core.Path.{_≡_, refl, sym, _∙_, ap, ap₂, subst}
-use mathlib.Core.List.{List, [], _∷_, _++_, append-assoc, append-nil}
+use mathlib.Core.List.{List, [], _∷_, _++_, append-nil}
 use mathlib.Core.Option.{none, some}
 use Prim.Native.Nat.{ℕ, zero, suc, _+_, _-_, _<_, _≤_}
 use native.Mathlib.Decide.{decLe}
 use native.Mathlib.Omega.{arith}
-use lib.ListN.{length, getD, take, drop, length-append, length-drop}
-use lib.Seq.{getD-drop, length-take-le, take-add, drop-drop, take-at, drop-append-add}
+use lib.ListN.{length, getD, take, drop, length-append, length-drop, take-append-drop}
+use lib.Seq.{getD-drop, length-take-le, take-add, take-take, drop-drop, take-append-le, take-append-add, drop-append-add}
 use borrow.Author.Tests.{le-leb}
 use Rattle.octets.specs.Bytes.{octet?}
 use Rattle.numerals.specs.Numeral.{put}
@@ -30,8 +30,8 @@ use Rattle.octets.specs.declared.Refusal.{Refusal}
 use Rattle.chunked.specs.declared.Answer.{Answer}
 use Rattle.chunked.specs.declared.Answer.the-variants.{More, Refused}
 use Rattle.chunked.specs.Verdict.{verdict}
-use Rattle.chunked.specs.helpers.Passes.{At, dataTo, Copied, ChunkAt}
-use Rattle.chunked.proofs.Passes.{begins, at-start, first-fits}
+use Rattle.chunked.specs.helpers.Passes.{At, dataTo, Copied, Laid, ChunkAt}
+use Rattle.chunked.proofs.Passes.{begins, at-start}
 use Rattle.chunked.proofs.Chunks.{line-on, data-on, chunk-on}
 
 no-length : (l : List ℕ) → length l ≡ 0 → l ≡ []
@@ -138,71 +138,69 @@ module _ (room : ℕ) (xs : List ℕ) {w : Whole} (e : decode room xs ≡ Framin
       whole-data ∙ no-new (w .taken) at (reach at) (omega (arith, line-total at, whole-length, ap length whole-data))
 
 -- ## The lent bytes
-module _ {xs old : List ℕ} where
-  pub copied-start : Copied xs old old 0 0
-  copied-start = record { at = at-start; wrote = refl }
 
-  pub copied-length : {new : List ℕ} {i o : ℕ} → Copied xs old new i o → length new ≡ length old
-  copied-length {new} {i} {o} h =
-      omega (
-        arith,
-        line-total (h .at),
-        first-fits (h .at),
-        ap length (h .wrote),
-        length-append (dataTo xs i) (drop o old),
-        length-drop o old,
-      )
+-- k bytes put at o, of which the first v are data: what later chunks write stands before len
+pub lay : (xs old y : List ℕ) (j o v k len : ℕ) → v ≤ k → j + k ≤ length xs → o + k ≤ len → len ≤ length old
+    → y ≡ put (take (j + k - j) (drop j xs)) (take (o + k - o) (drop o old))
+    → Laid xs old (take o old ++ (y ++ drop (o + k - o) (drop o old))) j o v len
+lay xs old y j o v k len few inside before lent e =
+    let a : j + k - j ≡ k = omega arith in
+    let b : o + k - o ≡ k = omega arith in
+    let d : y ≡ take k (drop j xs)
+    = e ∙ put-part old xs o j k (omega arith) inside ∙ ap (λ (n : ℕ). take n (drop j xs)) a in
+    let n : length (take o old) ≡ o = length-take-le o old (omega arith) in
+    let m : length (take k (drop j xs)) ≡ k = length-take-le k (drop j xs) (omega (arith, length-drop j xs)) in
+    let r : List ℕ = drop (o + k) old in
+    let z : take o old ++ (y ++ drop (o + k - o) (drop o old)) ≡ take o old ++ (take k (drop j xs) ++ r)
+    = ap₂ (λ (x w : List ℕ). take o old ++ (x ++ w)) d (ap (λ (i : ℕ). drop i (drop o old)) b ∙ drop-drop k o old) in
+    let f : len ≡ length (take o old) + (length (take k (drop j xs)) + (len - (o + k))) = omega (arith, n, m) in
+    let g : len ≡ o + k + (len - (o + k)) = omega arith in
+    record {
+      front = ap (take (o + v)) z
+          ∙ ap (λ (i : ℕ). take (i + v) (take o old ++ (take k (drop j xs) ++ r))) (sym n)
+          ∙ take-append-add (take o old) (take k (drop j xs) ++ r) v
+          ∙ ap (λ (x : List ℕ). take o old ++ x)
+          (take-append-le v (take k (drop j xs)) r (omega (arith, m)) ∙ take-take v k (drop j xs) few);
+      behind = ap (drop len) z
+          ∙ ap (λ (i : ℕ). drop i (take o old ++ (take k (drop j xs) ++ r))) f
+          ∙ drop-append-add (take o old) (take k (drop j xs) ++ r) (length (take k (drop j xs)) + (len - (o + k)))
+          ∙ drop-append-add (take k (drop j xs)) r (len - (o + k))
+          ∙ drop-drop (len - (o + k)) (o + k) old
+          ∙ ap (λ (i : ℕ). drop i old) (sym g);
+      lent = ap length z
+          ∙ length-append (take o old) (take k (drop j xs) ++ r)
+          ∙ omega (arith, n, m, length-append (take k (drop j xs)) r, length-drop (o + k) old);
+    }
 
-  -- what fits into what is left of the room fits behind what is written
-  pub copied-fits : {new : List ℕ} {i o v : ℕ} → Copied xs old new i o → v ≤ length old - o → o + v ≤ length new
-  copied-fits h fits = omega (arith, first-fits (h .at), copied-length h)
-
-  -- what is behind a place is as lent
-  kept : {new : List ℕ} {i o : ℕ} (v : ℕ) → Copied xs old new i o → drop (o + v) new ≡ drop (o + v) old
-  kept {new} {i} {o} v h =
-      ap (drop (o + v)) (h .wrote)
-      ∙ ap (λ (k : ℕ). drop (k + v) (dataTo xs i ++ drop o old)) (line-total (h .at))
-      ∙ drop-append-add (dataTo xs i) (drop o old) v
-      ∙ drop-drop v o old
+module _ {xs old : List ℕ} {len : ℕ} where
+  pub copied-start : Copied xs old old len 0 0
+  copied-start = record { at = at-start; wrote = refl; behind = refl; lent = refl }
 
   -- a chunk's data put behind what is there
-  pub copied-on : ((k : ℕ) → getD xs k 0 < 256) → {new : List ℕ} {i o w v : ℕ} (y : List ℕ) → Copied xs old new i o → ChunkAt xs i w v
-      → o + v ≤ length old → y ≡ put (take (i + w + v - (i + w)) (drop (i + w) xs)) (take (o + v - o) (drop o new))
-      → Copied xs old (take o new ++ (y ++ drop (o + v - o) (drop o new))) (i + w + v + 2) (o + v)
-  copied-on bytes {new} {i} {o} {w} {v} y h c fits e =
-      let a : i + w + v - (i + w) ≡ v = omega arith in
-      let b : o + v - o ≡ v = omega arith in
+  pub copied-on : ((k : ℕ) → getD xs k 0 < 256) → {new next : List ℕ} {i o w v : ℕ} → Copied xs old new len i o → ChunkAt xs i w v
+      → o + v ≤ length old → Laid xs new next (i + w) o v len → Copied xs old next len (i + w + v + 2) (o + v)
+  copied-on bytes {new} {next} {i} {o} {w} {v} h c fits l =
       let end : At (length old) xs (Line First 0 (o + v)) (i + w + v + 2) = chunk-on bytes (h .at) c fits in
-      let d : y ≡ take (i + w + v - (i + w)) (drop (i + w) xs) =
-      e ∙ put-part new xs o (i + w) v (copied-fits h (omega (arith, first-fits (h .at)))) (omega (arith, c .end .inside)) in
       record {
         at = end;
-        wrote = ap₂ (λ (x y : List ℕ). x ++ y)
-            (ap (take o) (h .wrote) ∙ take-at (dataTo xs i) (drop o old) o (sym (line-total (h .at))))
-            (ap₂ (λ (x : List ℕ) (k : ℕ). x ++ drop k (drop o new)) (d ∙ ap (λ (k : ℕ). take k (drop (i + w) xs)) a) b
-            ∙ ap (λ (x : List ℕ). take v (drop (i + w) xs) ++ x) (drop-drop v o new ∙ kept v h))
-            ∙ sym (append-assoc (dataTo xs i) (take v (drop (i + w) xs)) (drop (o + v) old))
-            ∙ ap (λ (x : List ℕ). x ++ drop (o + v) old)
-            (sym (chunk-data bytes (h .at) (c .some) (omega arith) (line-on (h .at) (c .some) (c .line) fits)
-            (omega (arith, c .end .inside)) end));
+        wrote = l .front
+            ∙ ap (λ (x : List ℕ). x ++ take v (drop (i + w) xs)) (h .wrote)
+            ∙ sym (chunk-data bytes (h .at) (c .some) (omega arith) (line-on (h .at) (c .some) (c .line) fits)
+            (omega (arith, c .end .inside)) end);
+        behind = l .behind ∙ h .behind;
+        lent = l .lent ∙ h .lent;
       }
 
-  -- the same of a chunk that was read
-  pub read-copied-on : ((k : ℕ) → getD xs k 0 < 256) → {new : List ℕ} {i o j v : ℕ} (y : List ℕ) → Copied xs old new i o → i ≤ j
-      → o + v ≤ length old → ChunkAt xs i (j - i) v → y ≡ put (take (j + v - j) (drop j xs)) (take (o + v - o) (drop o new))
-      → Copied xs old (take o new ++ (y ++ drop (o + v - o) (drop o new))) (j + v + 2) (o + v)
-  read-copied-on bytes {new} {i} {o} {j} {v} y h le fits c e =
-      let k : i + (j - i) ≡ j = omega arith in
-      subst (λ (n : ℕ). Copied xs old (take o new ++ (y ++ drop (o + v - o) (drop o new))) (n + v + 2) (o + v)) k
-      (copied-on bytes y h c fits (e ∙ ap (λ (n : ℕ). put (take (n + v - n) (drop n xs)) (take (o + v - o) (drop o new))) (sym k)))
-
   module _ {w : Whole} (e : decode (length old) xs ≡ Framing.whole w) where
-    pub copied-all : {new : List ℕ} {i o : ℕ} → Copied xs old new i o → w .length ≤ o → new ≡ decode-output xs old
+    pub copied-all : {new : List ℕ} {i o : ℕ} → w .length ≡ len → Copied xs old new len i o → len ≤ o → new ≡ decode-output xs old
     unfolding decode-output
-    copied-all {new} {i} {o} h le =
-        let d : decoded (length old) xs ≡ dataTo xs i = all-data (length old) xs e (h .at) le in
-        h .wrote
-        ∙ ap (λ (n : ℕ). dataTo xs i ++ drop n old) (line-total (h .at))
+    copied-all {new} {i} {o} told h le =
+        let d : decoded (length old) xs ≡ dataTo xs i = all-data (length old) xs e (h .at) (omega (arith, told)) in
+        let n : length (dataTo xs i) ≡ len = ap length (sym d) ∙ whole-length (length old) xs e ∙ told in
+        let o-len : o ≡ len = line-total (h .at) ∙ n in
+        sym (take-append-drop len new)
+        ∙ ap₂ (λ (x y : List ℕ). x ++ y) (ap (λ (k : ℕ). take k new) (sym o-len) ∙ h .wrote) (h .behind)
+        ∙ ap (λ (k : ℕ). dataTo xs i ++ drop k old) (sym n)
         ∙ ap (λ (z : List ℕ). z ++ drop (length z) old) (sym d)
 
 module _ (xs old : List ℕ) where

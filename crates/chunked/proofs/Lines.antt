@@ -21,7 +21,7 @@ use Rattle.framing.specs.Reading.{decode}
 use Rattle.framing.proofs.Scanning.{run-append}
 use Rattle.framing.proofs.Lines.{lineRun, line-complete}
 use Rattle.chunked.specs.declared.Ending.the-variants as Ending
-use Rattle.chunked.specs.helpers.Passes.{At, SizeRead, LineAt, ending-answer}
+use Rattle.chunked.specs.helpers.Passes.{At, SizeRead, LineAt, LastAt, ending-answer}
 use Rattle.chunked.proofs.Passes.{at-next, at-refuse, at-end, first-fits, line-short}
 use Rattle.framing.proofs.Turns as Turns
 
@@ -276,3 +276,18 @@ module _ {room : ℕ} {xs : List ℕ} where
         ap₂ (λ (m n : ℕ). Framing.whole (record { taken = m; length = t; «trailer_start» = n; «trailer_length» = k - i }))
         (omega arith) (omega arith)
         ∙ at-end at lt (Turns.end-lf (getD xs (k + 1) 0) t (k - i) h) (Turns.ended-done room t (k - i))
+
+  -- ## A last line without extensions
+  pub last-on : {t i : ℕ} → At room xs (Line First 0 t) i → LastAt xs i → At room xs (Trail (trailer .begin) 0 t) (i + 3)
+  unfolding hex?
+  last-on {t} {i} at (zero-digit, c) =
+      let digit : 0 ≡ cond (hex? (getD xs i 0)) (hex-value (getD xs i 0)) 16 = ap (λ (b : ℕ). cond (hex? b) (hex-value b) 16) (sym zero-digit) in
+      let other : 16 ≡ cond (hex? (getD xs (i + 1) 0)) (hex-value (getD xs (i + 1) 0)) 16
+      = ap (λ (b : ℕ). cond (hex? b) (hex-value b) 16) (sym (c .cr)) in
+      let size : InSize room xs i t 0 (i + 1)
+      = size-on (size-start at) (omega (arith, c .inside)) digit (omega arith) (λ e. absurd (omega arith)) (omega (arith, first-fits at)) in
+      let read : SizeRead room xs i t 0 (i + 1)
+      = size-read size (omega (arith, c .inside)) other (omega (arith, c .cr)) (omega arith) (λ e. absurd (omega arith)) in
+      let feed : At room xs (LineFeed 0 t) (i + 1 + 1) = ext-ended (ext-start read) (omega (arith, c .inside)) (c .cr) refl in
+      let z : i + 1 + 1 + 1 ≡ i + 3 = omega arith in
+      subst (At room xs (Trail (trailer .begin) 0 t)) z (feed-last feed (omega (arith, c .inside)) (c .lf) refl)

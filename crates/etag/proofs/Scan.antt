@@ -1,8 +1,9 @@
 -- The reader's scans against the grammar: the mark, the quotes and what stands between them, the end.
 use Prim.Native.Nat.{ℕ, suc, _+_, _-_, _≤_, _<_}
 use native.Mathlib.Omega.{arith}
+use native.Mathlib.Decide.{ℕ-discrete}
 use borrow.Author.Tests.{ne-eqb, eq-eqb}
-use mathlib.Core.Path.{_≡_, refl, sym, ap, _∙_}
+use mathlib.Core.Path.{_≡_, refl, sym, ap, subst, _∙_}
 use mathlib.Core.Bool.{Bool, true, false, cond, true≢false}
 use mathlib.Core.List.{List, [], _∷_, _++_}
 use mathlib.Core.Option.{none}
@@ -97,6 +98,30 @@ mark-whole (b ∷ x ∷ t) short h = go (eqb (lower b) (lower 87)) (eqb (lower x
     }
     go true false e f k = absurd (omega arith)
     go false q e f k = absurd (omega arith)
+
+agreed-few : (s : List ℕ) → agreeing mark s ≤ 2
+agreed-few [] = omega arith
+agreed-few (b ∷ []) = go (eqb (lower b) (lower 87))
+  where
+    go : (x : Bool) → cond x 1 0 ≤ 2
+    go true = omega arith
+    go false = omega arith
+agreed-few (b ∷ x ∷ t) = go (eqb (lower b) (lower 87)) (eqb (lower x) (lower 47))
+  where
+    go : (p q : Bool) → cond p (suc (cond q 1 0)) 0 ≤ 2
+    go true true = omega arith
+    go true false = omega arith
+    go false q = omega arith
+
+-- no mark, or all of it
+pub mark-read : (s : List ℕ) → length s ≤ 8192 → (n : ℕ) → n ≡ agreeing mark s → (n ≡ 1 → ⊥) → AfterMark s (eqb n 2) n
+mark-read s short n e h = go (ℕ-discrete n 0)
+  where
+    go : Dec (n ≡ 0) → AfterMark s (eqb n 2) n
+    go (yes z) = subst (λ (k : ℕ). AfterMark s (eqb k 2) k) (sym z) (mark-none s short (sym e ∙ z))
+    go (no z) =
+        let two : n ≡ 2 = omega (arith, agreed-few s) in
+        subst (λ (k : ℕ). AfterMark s (eqb k 2) k) (sym two) (mark-whole s short (omega arith))
 
 -- ## The quoted string
 

@@ -32,16 +32,13 @@ pub fn read(s: &[u8]) -> Reading
         });
     }
     let agreed = scans::word_at(b"W/", s, 0);
-    if agreed == 0 {
-        return read_opaque(s, false, 0);
-    }
-    if agreed < MARK_LEN {
+    if agreed == 1 {
         return Reading::Refused(Refusal {
             number: octets::MALFORMED,
             place: agreed,
         });
     }
-    read_opaque(s, true, MARK_LEN)
+    read_opaque(s, agreed == MARK_LEN, agreed)
 }
 
 // Reads on from the place behind the mark, if there is one.

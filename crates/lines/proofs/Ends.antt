@@ -1,16 +1,19 @@
 -- Where a line ends, and the lines of an input: how each goes on, one byte at a time.
 use mathlib.Core.Path.{_≡_, refl, sym, _∙_, ap, ap₂}
-use mathlib.Core.Bool.{true, false, cond}
+use mathlib.Core.Bool.{Bool, true, false, cond, not, _&&_}
 use mathlib.Core.List.{List, [], _∷_, _++_, append-assoc, append-nil}
-use Prim.Native.Nat.{ℕ, suc, _+_, _-_, _<_, _≤_}
+use Prim.Native.Nat.{ℕ, zero, suc, _+_, _-_, _<_, _≤_}
 use native.Mathlib.Numerals.{add-one}
 use native.Mathlib.Omega.{arith}
 use lib.Dec.{eqb}
-use lib.ListN.{length, getD, take, drop, drop-of-length-le}
-use lib.Seq.{drop-cons}
+use lib.ListN.{length, getD, take, drop, drop-of-length-le, length-drop}
+use lib.Seq.{drop-cons, drop-drop}
 use borrow.Author.Tests.{eq-eqb, ne-eqb}
+use Rattle.numerals.specs.Numeral.{every}
 use Rattle.numerals.proofs.Digits.{split, at-true, at-false}
 use Rattle.lines.specs.Reading.{line-end, lines-from, rest-from}
+use Rattle.lines.specs.helpers.Ends.{inner?, NoneBefore}
+use Rattle.lines.proofs.Hexes.{false-true, and-true, and-false}
 
 end-cons : (b : ℕ) (xs : List ℕ) → line-end (b ∷ xs) ≡ cond (eqb b 10) 0 (suc (line-end xs))
 unfolding line-end
@@ -41,6 +44,29 @@ module _ (s : List ℕ) (i : ℕ) where
   pub end-later : i < length s → (getD s i 0 ≡ 10 → ⊥) → line-end (drop i s) ≡ suc (line-end (drop (i + 1) s))
   end-later h f = ap line-end (drop-cons s i 0 h) ∙ end-on (getD s i 0) (drop (suc i) s) (ne-eqb (getD s i 0) 10 f)
       ∙ ap (λ (k : ℕ). suc (line-end (drop k s))) (sym (add-one i))
+
+-- the flag of a loop over a block
+pub inner-stopped : (b : ℕ) (t : Bool) → b ≡ 10 → false ≡ (t && inner? b)
+inner-stopped b t e = sym (ap (λ (u : Bool). t && not u) (eq-eqb b 10 e) ∙ and-false t)
+
+pub inner-kept : (b : ℕ) (t : Bool) → (b ≡ 10 → ⊥) → t ≡ (t && inner? b)
+inner-kept b t f = sym (ap (λ (u : Bool). t && not u) (ne-eqb b 10 f) ∙ and-true t)
+
+-- a block that has none is passed
+end-block : (n : ℕ) (xs : List ℕ) → n ≤ length xs → every inner? (take n xs) ≡ true → n + line-end (drop n xs) ≡ line-end xs
+end-block zero xs h e = omega arith
+end-block (suc n) [] h e = absurd (omega arith)
+end-block (suc n) (b ∷ xs) h e = split (eqb b 10)
+    (λ t. false-true (ap (λ (u : Bool). not u && every inner? (take n xs)) (sym t) ∙ e))
+    (λ f. omega (arith, end-on b xs f, end-block n xs (omega arith) (ap (λ (u : Bool). not u && every inner? (take n xs)) (sym f) ∙ e)))
+
+pub none-behind : (s : List ℕ) (at end : ℕ) → NoneBefore s at → at ≤ end → end ≤ length s
+    → every inner? (take (end - at) (drop at s)) ≡ true → NoneBefore s end
+none-behind s at end n h k e =
+    let m : at + (end - at) ≡ end = omega arith in
+    let d : line-end (drop (end - at) (drop at s)) ≡ line-end (drop end s)
+    = ap line-end (drop-drop (end - at) at s ∙ ap (λ (i : ℕ). drop i s) m) in
+    (k, omega (arith, n .1, end-block (end - at) (drop at s) (omega (arith, length-drop at s)) e))
 
 -- ## The lines that end in some bytes, and what is begun behind them
 module _ (begun : List ℕ) (b : ℕ) (xs : List ℕ) where

@@ -4,17 +4,21 @@ use mathlib.Core.Bool.{Bool, true, false, _&&_, _||_, cond}
 use mathlib.Core.List.{List, [], _∷_, _++_}
 use mathlib.Core.Logic.{_⊎_, inl, inr, ⊎-elim}
 use mathlib.Core.Option.{Option, none, some}
-use Prim.Native.Nat.{ℕ, zero, suc, _+_, _-_, _*_, _/_, _%_, _<_, _≤_}
+use Prim.Native.Nat.{ℕ, zero, suc, _+_, _-_, _*_, _/_, _%_, _^_, _<_, _≤_}
+use native.Mathlib.Nat.{mul-add-mod-self-right, mod-eq-of-lt}
 use native.Mathlib.Numerals.{add-one}
 use native.Mathlib.Omega.{arith}
+use lib.Bits.{bitAnd, bitXor, and-block, xor-block, and-mask, xor-lt}
 use lib.Dec.{leb, ltb}
-use lib.ListN.{length, getD, drop, set, length-set}
+use lib.ListN.{length, getD, drop, drop-of-length-le, set, length-set}
 use lib.Seq.{drop-cons}
 use borrow.Author.Tests.{leb-true, le-leb, lt-leb, lt-ltb, le-ltb}
 use Rattle.octets.specs.Bytes.{within, hex?, hex-value}
+use Rattle.octets.proofs.Spans.{by-range}
 use Rattle.numerals.specs.Numeral.{every}
 use Rattle.numerals.proofs.Digits.{split, at-true, at-false}
-use Rattle.copying.proofs.Runs.{Front, front-on, front-even}
+use Rattle.copying.specs.helpers.Runs.{Front}
+use Rattle.copying.proofs.Runs.{front-on, front-even}
 use Rattle.lines.specs.Grammar.{DIGIT_LIMIT}
 use Rattle.lines.specs.helpers.Pairs.{pairs}
 use Rattle.lines.specs.declared.Hex.the-variants.{Bytes, Bad}
@@ -34,6 +38,18 @@ right false t e = false-true e
 either : (s t : Bool) → (s || t) ≡ true → (s ≡ true) ⊎ (t ≡ true)
 either true t e = inl refl
 either false t e = inr e
+
+and-assoc : (s t u : Bool) → ((s && t) && u) ≡ (s && (t && u))
+and-assoc true t u = refl
+and-assoc false t u = refl
+
+pub and-true : (s : Bool) → (s && true) ≡ s
+and-true true = refl
+and-true false = refl
+
+pub and-false : (s : Bool) → (s && false) ≡ false
+and-false true = refl
+and-false false = refl
 
 -- ## Values
 low : (lo hi b : ℕ) → within lo hi b ≡ true → lo ≤ b
@@ -63,28 +79,107 @@ value-small b e = ⊎-elim
     (either (within 65 70 b) (within 97 102 b) l))
     (either (within 48 57 b) (within 65 70 b || within 97 102 b) e)
 
--- a value of 16 says that the byte is no digit
-pub no-digit : (b r : ℕ) → r ≡ cond (hex? b) (hex-value b) 16 → r ≡ 16 → hex? b ≡ false
-no-digit b r e h = split (hex? b)
-    (λ t. absurd (omega (arith, e ∙ at-true (hex? b) (hex-value b) 16 t, value-small b t)))
-    (λ t. t)
-
-pub digit : (b r : ℕ) → r ≡ cond (hex? b) (hex-value b) 16 → (r ≡ 16 → ⊥) → hex? b ≡ true
-digit b r e f = split (hex? b) (λ t. t) (λ t. absurd (f (e ∙ at-false (hex? b) (hex-value b) 16 t)))
-
 pub value-is : (b r : ℕ) → r ≡ cond (hex? b) (hex-value b) 16 → hex? b ≡ true → r ≡ hex-value b
 value-is b r e t = e ∙ at-true (hex? b) (hex-value b) 16 t
+
+-- the largest value so far tells whether all bytes are digits
+module _ (b m r : ℕ) (e : r ≡ cond (hex? b) (hex-value b) 16) where
+  above : hex? b ≡ false → r ≡ 16
+  above f = e ∙ at-false (hex? b) (hex-value b) 16 f
+
+  stopped : (n : ℕ) → hex? b ≡ false → 16 ≤ n → ltb n 16 ≡ (ltb m 16 && hex? b)
+  stopped n f h = le-ltb n 16 h ∙ sym (ap (λ (t : Bool). ltb m 16 && t) f ∙ and-false (ltb m 16))
+
+  pub most-raised : m < r → ltb r 16 ≡ (ltb m 16 && hex? b)
+  most-raised h = split (hex? b)
+      (λ t. let s : r < 16 = omega (arith, value-is b r e t, value-small b t) in
+      lt-ltb r 16 s ∙ sym (ap₂ (λ (x y : Bool). x && y) (lt-ltb m 16 (omega arith)) t))
+      (λ f. stopped r f (omega (arith, above f)))
+
+  pub most-kept : r ≤ m → ltb m 16 ≡ (ltb m 16 && hex? b)
+  most-kept h = split (hex? b)
+      (λ t. sym (ap (λ (u : Bool). ltb m 16 && u) t ∙ and-true (ltb m 16)))
+      (λ f. stopped m f (omega (arith, above f)))
+
+-- ## Two digits in one word
+-- the low four bits, and 9 more for a letter
+abbrev by-bits : ℕ → ℕ
+by-bits b = b % 16 + b / 64 % 2 * 9
+
+-- of the byte with those bits turned over
+abbrev turned : ℕ → ℕ
+turned b = bitXor b 79
+
+value-by-bits : (b : ℕ) → b < 256 → hex? b ≡ true → by-bits (turned b) ≡ 24 - hex-value b
+unfolding hex?
+value-by-bits b h t =
+    sym (at-true (hex? b) (by-bits (turned b)) 0 t)
+    ∙ by-range (λ (n : ℕ). cond (hex? n) (by-bits (turned n)) 0) (λ (n : ℕ). cond (hex? n) (24 - hex-value n) 0) 0 256 refl b
+    (omega arith) (omega arith)
+    ∙ at-true (hex? b) (24 - hex-value b) 0 t
+
+-- of both bytes of a word
+abbrev pub both-by-bits : ℕ → ℕ
+both-by-bits w = bitAnd w 3855 + bitAnd (w / 64) 257 * 9
+
+module _ (w a b : ℕ) (ha : a < 256) (hb : b < 256) (e : w ≡ b * 2 ^ 8 + a) where
+  low-bits : bitAnd w 3855 ≡ b % 16 * 256 + a % 16
+  low-bits =
+      ap (λ (x : ℕ). bitAnd x 3855) e ∙ and-block 8 b 15 a 15 (omega arith) (omega arith)
+      ∙ ap₂ (λ (x y : ℕ). x * 256 + y) (and-mask b 4) (and-mask a 4)
+
+  letter-bits : bitAnd (w / 64) 257 ≡ b / 64 % 2 * 256 + a / 64 % 2
+  letter-bits =
+      let f : w / 64 ≡ b / 64 * 2 ^ 8 + (b % 64 * 4 + a / 64) = omega arith in
+      let g : (b % 64 * 4 + a / 64) % 2 ≡ a / 64 % 2 = omega arith in
+      ap (λ (x : ℕ). bitAnd x 257) f ∙ and-block 8 (b / 64) 1 (b % 64 * 4 + a / 64) 1 (omega arith) (omega arith)
+      ∙ ap₂ (λ (x y : ℕ). x * 256 + y) (and-mask (b / 64) 1) (and-mask (b % 64 * 4 + a / 64) 1 ∙ g)
+
+  word-by-bits : both-by-bits w ≡ by-bits b * 256 + by-bits a
+  word-by-bits = omega (arith, low-bits, letter-bits)
+
+module _ (a b : ℕ) (ha : a < 256) (hb : b < 256) (t : hex? a ≡ true) (u : hex? b ≡ true) where
+  short-is : both-by-bits (bitXor (a + b * 256) 20303) ≡ (24 - hex-value b) * 256 + (24 - hex-value a)
+  short-is =
+      let e : a + b * 256 ≡ b * 2 ^ 8 + a = omega arith in
+      let word : bitXor (a + b * 256) 20303 ≡ turned b * 2 ^ 8 + turned a
+      = ap (λ (x : ℕ). bitXor x 20303) e ∙ xor-block 8 b 79 a 79 (omega arith) (omega arith) in
+      word-by-bits (bitXor (a + b * 256) 20303) (turned a) (turned b) (xor-lt 8 a 79 (omega arith) (omega arith))
+      (xor-lt 8 b 79 (omega arith) (omega arith)) word
+      ∙ ap₂ (λ (x y : ℕ). x * 256 + y) (value-by-bits b hb u) (value-by-bits a ha t)
+
+  pub short-fits : both-by-bits (bitXor (a + b * 256) 20303) ≤ 6168
+  short-fits = omega (arith, short-is)
+
+  pub values-are : 6168 - both-by-bits (bitXor (a + b * 256) 20303) ≡ hex-value b * 256 + hex-value a
+  values-are = omega (arith, short-is, value-small a t, value-small b u)
+
+  pub values-fit : 6168 - both-by-bits (bitXor (a + b * 256) 20303) ≤ 3855
+  values-fit = omega (arith, values-are, value-small a t, value-small b u)
+
+pub byte-of-word : {x : ℕ} (v w : ℕ) → x ≡ w * 256 + v → v < 16 → w < 16 → (x * 16 + x / 256) % 256 ≡ v * 16 + w
+byte-of-word {x} v w e h k =
+    let q : x / 256 ≡ w = omega arith in
+    let s : x * 16 + x / 256 ≡ w * 16 * 256 + (v * 16 + w) = omega arith in
+    ap (λ (n : ℕ). n % 256) s ∙ mul-add-mod-self-right (w * 16) 256 (v * 16 + w) ∙ mod-eq-of-lt (omega arith)
 
 -- ## Runs
 module _ (xs : List ℕ) (i : ℕ) (h : i < length xs) where
   next : drop i xs ≡ getD xs i 0 ∷ drop (i + 1) xs
   next = drop-cons xs i 0 h ∙ ap (λ (k : ℕ). getD xs i 0 ∷ drop k xs) (sym (add-one i))
 
-  pub every-on : (p : ℕ → Bool) → p (getD xs i 0) ≡ true → every p (drop (i + 1) xs) ≡ every p (drop i xs)
-  every-on p e = sym (ap (every p) next ∙ ap (λ (t : Bool). t && every p (drop (i + 1) xs)) e)
+  -- t tells whether all bytes before i pass the test, and u whether all before i + 1 do
+  pub every-on : (p : ℕ → Bool) (t u : Bool) → u ≡ (t && p (getD xs i 0)) → (t && every p (drop i xs)) ≡ every p xs
+      → (u && every p (drop (i + 1) xs)) ≡ every p xs
+  every-on p t u e k =
+      let rest = every p (drop (i + 1) xs) in
+      ap (λ (v : Bool). v && rest) e ∙ and-assoc t (p (getD xs i 0)) rest
+      ∙ ap (λ (v : Bool). t && v) (sym (ap (every p) next)) ∙ k
 
-  pub every-stops : (p : ℕ → Bool) → p (getD xs i 0) ≡ false → every p (drop i xs) ≡ false
-  every-stops p e = ap (every p) next ∙ ap (λ (t : Bool). t && every p (drop (i + 1) xs)) e
+pub every-end : (p : ℕ → Bool) (xs : List ℕ) (i : ℕ) (t : Bool) → length xs ≤ i → (t && every p (drop i xs)) ≡ every p xs
+    → t ≡ every p xs
+every-end p xs i t h k =
+    sym (and-true t) ∙ ap (λ (l : List ℕ). t && every p l) (sym (drop-of-length-le xs {i = i} h)) ∙ k
 
 pub every-at : (p : ℕ → Bool) (xs : List ℕ) (i : ℕ) → every p xs ≡ true → i < length xs → p (getD xs i 0) ≡ true
 every-at p [] i e h = absurd (omega arith)
@@ -183,20 +278,10 @@ module _ (xs : List ℕ) (room : ℕ) where
         ∙ at-false (ltb room (length (pairs xs))) none (some (pairs xs)) (le-ltb room (length (pairs xs)) (omega (arith, half)))
 
 -- ## A loop over pairs
-module _ (xs : List ℕ) (e : every hex? xs ≡ true) where
-  pub digit-below : (j r : ℕ) → j < length xs → r ≡ cond (hex? (getD xs j 0)) (hex-value (getD xs j 0)) 16 → r < 16
-  digit-below j r h v =
-      let t = every-at hex? xs j e h in
-      omega (arith, value-is (getD xs j 0) r v t, value-small (getD xs j 0) t)
-
-  pub pair-is : (i j r s : ℕ) → j ≡ 2 * i → j + 1 < length xs
-      → r ≡ cond (hex? (getD xs j 0)) (hex-value (getD xs j 0)) 16 → s ≡ cond (hex? (getD xs (j + 1) 0)) (hex-value (getD xs (j + 1) 0)) 16
-      → getD (pairs xs) i 0 ≡ r * 16 + s
-  pair-is i j r s k h v w =
-      pairs-at xs i (omega arith)
-      ∙ ap (λ (m : ℕ). hex-value (getD xs m 0) * 16 + hex-value (getD xs (m + 1) 0)) (sym k)
-      ∙ ap₂ (λ (a b : ℕ). a * 16 + b) (sym (value-is (getD xs j 0) r v (every-at hex? xs j e (omega arith))))
-      (sym (value-is (getD xs (j + 1) 0) s w (every-at hex? xs (j + 1) e h)))
+pub pair-is : (xs : List ℕ) (i j r : ℕ) → j ≡ 2 * i → j + 1 < length xs
+    → r ≡ hex-value (getD xs j 0) * 16 + hex-value (getD xs (j + 1) 0) → getD (pairs xs) i 0 ≡ r
+pair-is xs i j r k h v =
+    pairs-at xs i (omega arith) ∙ ap (λ (m : ℕ). hex-value (getD xs m 0) * 16 + hex-value (getD xs (m + 1) 0)) (sym k) ∙ sym v
 
 -- the first k pairs are put
 pub record Filling (line old out : List ℕ) (k : ℕ) : Type 0 where

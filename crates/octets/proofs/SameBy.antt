@@ -1,6 +1,7 @@
 -- Parts that are the same, each byte seen through f: the laws, and a step at a time.
-use Prim.Native.Nat.{ℕ, suc, _+_, _≤_, _<_}
+use Prim.Native.Nat.{ℕ, zero, suc, _+_, _≤_, _<_}
 use native.Mathlib.Numerals.{add-one}
+use native.Mathlib.Omega.{arith}
 use mathlib.Core.Path.{_≡_, refl, sym, ap, ap₂, _∙_}
 use mathlib.Core.Bool.{Bool, true, false, _&&_, true≢false}
 use mathlib.Core.List.{List, [], _∷_}
@@ -20,6 +21,10 @@ eqb-swap m n = go (eqb m n) refl
 both : (x y : Bool) → (x && y) ≡ true → (x ≡ true) × (y ≡ true)
 both true y e = (refl, e)
 both false y e = absurd (true≢false (sym e))
+
+pub neither : (x : Bool) {y : Bool} → y ≡ false → (x && y) ≡ false
+neither true e = e
+neither false e = refl
 
 module _ (f : ℕ → ℕ) where
   pub by-self : (a : List ℕ) → same-by f a a ≡ true
@@ -52,6 +57,13 @@ module _ (f : ℕ → ℕ) where
       go : (t : Bool) → false ≡ same-by f a b → false ≡ (t && same-by f a b)
       go true e = e
       go false e = refl
+
+  -- nor are those that differ at a place
+  pub by-apart : (a b : List ℕ) (i : ℕ) → i < length a → i < length b → (f (getD a i 0) ≡ f (getD b i 0) → ⊥) → same-by f a b ≡ false
+  by-apart [] b i h k n = absurd (omega arith)
+  by-apart (x ∷ a) [] i h k n = absurd (omega arith)
+  by-apart (x ∷ a) (y ∷ b) zero h k n = rw (ne-eqb (f x) (f y) n)
+  by-apart (x ∷ a) (y ∷ b) (suc i) h k n = neither (eqb (f x) (f y)) (by-apart a b i (omega arith) (omega arith) n)
 
   module _ (a b : List ℕ) (i : ℕ) where
     pub by-end : length a ≤ i → length b ≤ i → same-by f (drop i a) (drop i b) ≡ true

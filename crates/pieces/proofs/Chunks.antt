@@ -8,7 +8,8 @@ use lib.Seq.{take-add, drop-drop, length-take-le}
 use Rattle.text.specs.Placing.{placed}
 use Rattle.text.proofs.Placing.{Put, put-none, put-then, behind-fits, placed-length}
 use Rattle.framing.specs.declared.LinePos.the-variants.{First}
-use Rattle.framing.specs.declared.State.the-variants.{Line}
+use Rattle.framing.specs.declared.State.{State}
+use Rattle.framing.specs.declared.State.the-variants.{Line, Data}
 use Rattle.framing.proofs.Passing as Framing
 use Rattle.framing.proofs.Turns.{quiet-first}
 use Rattle.chunked.specs.helpers.Passes.{CrlfAt}
@@ -98,4 +99,29 @@ chunks-passed s {bytes} {old} {new} {t} {at} {total} g e w h =
       state = ap (λ (c : ℕ). record { position = Line First 0 total; taken = s .taken + c; room = s .room; refused = 0 }) (sym k)
           ∙ sym (r .state);
       wrote = h .put .is ∙ ap₂ (λ (i : ℕ) (d : List ℕ). placed old i d) f (sym (r .given));
+    }
+
+-- behind them and the line of the next
+pub begun-passed : (s : Pieces) {bytes old new : List ℕ} {t at total v n : ℕ} → Going s old → s .position ≡ Line First 0 t
+    → s .taken + length bytes ≤ FRAMED_LIMIT → Chunks (s .room) bytes old t at total new → PlainSize (drop at bytes) (s .room - total) v n
+    → Passed s bytes old (record { position = Data (v - 1) (total + v); taken = s .taken + (at + n); room = s .room; refused = 0 }) new
+unfolding filled
+begun-passed s {bytes} {old} {new} {t} {at} {total} {v} {n} g e w h l =
+    let to : State = Data (v - 1) (total + v) in
+    let inside : at + n ≤ length bytes = omega (arith, h .inside, l .inside, length-drop at bytes) in
+    let k : length (take (at + n) bytes) ≡ at + n = length-take-le (at + n) bytes inside in
+    let line : Framing.Passes (s .room) (Line First 0 total) (take n (drop at bytes)) [] to
+    = subst (λ (z : List ℕ). Framing.Passes (s .room) (Line First 0 total) z [] to) (sym (l .split))
+    (Framing.passes-size total (l .line) (l .some) (l .short) (omega (arith, l .fits, total-fits (g .lent) h))) in
+    let p : Framing.Passes (s .room) (Line First 0 t) (take (at + n) bytes) (h .given) to
+    = subst (λ (z : List ℕ). Framing.Passes (s .room) (Line First 0 t) z (h .given) to) (sym (take-add at n bytes))
+    (subst (λ (d : List ℕ). Framing.Passes (s .room) (Line First 0 t) (take at bytes ++ take n (drop at bytes)) d to)
+    (append-nil (h .given)) (Framing.passes-then (h .passes) line)) in
+    let r : Run s (take (at + n) bytes) (h .given) to = runs s (g .going) e p (omega arith) in
+    record {
+      count = at + n;
+      inside = inside;
+      taken = refl;
+      state = ap (λ (c : ℕ). record { position = to; taken = s .taken + c; room = s .room; refused = 0 }) (sym k) ∙ sym (r .state);
+      wrote = h .put .is ∙ ap₂ (λ (i : ℕ) (d : List ℕ). placed old i d) (ap filled (sym e)) (sym (r .given));
     }

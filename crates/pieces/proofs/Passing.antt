@@ -22,7 +22,7 @@ use Rattle.framing.proofs.Passing as Framing
 use Rattle.pieces.specs.Grammar.{FRAMED_LIMIT}
 use Rattle.pieces.specs.Reading.{judged, over?, advance, steps, gathered, filled}
 use Rattle.pieces.specs.declared.Pieces.{Pieces}
-use Rattle.pieces.specs.helpers.Runs.{Sound, Going, Ran, Passed, Idle, PlainSize}
+use Rattle.pieces.specs.helpers.Runs.{Sound, Going, Ran, Passed, Idle}
 use Rattle.framing.specs.declared.LinePos.{LinePos}
 use Rattle.framing.proofs.Rooms.{Fits}
 use Rattle.pieces.proofs.PlainLines.{take-crlf}
@@ -78,25 +78,6 @@ module _ (s : Pieces) (d : Sound s) where
       let w : Stands (s .room) (Data m t)
       = subst (Stands (s .room)) e (possible-stands (s .room) (s .position) (d .stands)) in
       (w .counts, w .fits)
-
--- a line of digits, and its CR LF
-pub line-ran : (s : Pieces) {bytes : List ℕ} {t v n : ℕ} → Sound s → over? s ≡ false → s .position ≡ Line First 0 t
-    → s .taken + length bytes ≤ FRAMED_LIMIT → PlainSize bytes (s .room - t) v n
-    → Ran s bytes (record { position = Data (v - 1) (t + v); taken = s .taken + n; room = s .room; refused = 0 })
-line-ran s {bytes} {t} {v} {n} d o e h l =
-    let k : length (take n bytes) ≡ n = length-take-le n bytes (l .inside) in
-    let f : t + v ≤ s .room = omega (arith, l .fits, line-before s d e) in
-    let r : Run s (take n bytes) [] (Data (v - 1) (t + v))
-    = runs s o e (subst (λ (z : List ℕ). Framing.Passes (s .room) (Line First 0 t) z [] (Data (v - 1) (t + v))) (sym (l .split))
-    (Framing.passes-size t (l .line) (l .some) (l .short) f)) (omega (arith, l .inside)) in
-    record {
-      count = n;
-      inside = l .inside;
-      taken = refl;
-      state = ap (λ (c : ℕ). record { position = Data (v - 1) (t + v); taken = s .taken + c; room = s .room; refused = 0 }) (sym k)
-          ∙ sym (r .state);
-      none = r .given;
-    }
 
 -- ## Data
 -- behind so many bytes, at p
@@ -171,13 +152,6 @@ ran-passed {s} old p = record {
   state = p .state;
   wrote = sym (ap (placed old (filled (s .position))) (p .none) ∙ placed-none old (filled (s .position)));
 }
-
--- no byte, nothing written
-pub still-passed : {s r : Pieces} {bytes old new : List ℕ} → Passed s bytes old r new → r .taken ≤ s .taken → new ≡ old
-unfolding steps
-still-passed {s} {r} {bytes} {old} p h =
-    let k : p .count ≡ 0 = omega (arith, p .taken) in
-    p .wrote ∙ ap (λ (n : ℕ). placed old (filled (s .position)) (gathered s (take n bytes))) k ∙ placed-none old (filled (s .position))
 
 -- ## No data that is taken
 pub idle-by : (s : Pieces) → ((b : ℕ) → emit (s .position) b ≡ []) → Idle s

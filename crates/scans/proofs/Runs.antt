@@ -87,3 +87,12 @@ run-slice p s i =
     ap (λ (m : ℕ). take m (drop i s)) e
     ∙ run-front p (drop i s) (length (run p (drop i s))) (omega arith)
     ∙ take-length (run p (drop i s))
+
+-- from behind n bytes of the class the run ends where it does from before them
+pub run-end-behind : (p : ℕ → Bool) (s : List ℕ) (i n : ℕ) → i + n ≤ length s → ((k : ℕ) → k < n → p (getD s (i + k) 0) ≡ true)
+    → run-end p s (i + n) ≡ run-end p s i
+run-end-behind p s i zero h e = ap (run-end p s) (omega arith)
+run-end-behind p s i (suc n) h e =
+    let one : i + suc n ≡ (i + n) + 1 = omega arith in
+    ap (run-end p s) one ∙ run-end-next p s (i + n) (omega arith) (e n (omega arith))
+    ∙ run-end-behind p s i n (omega arith) (λ k j. e k (omega arith))

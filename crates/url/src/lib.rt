@@ -8,7 +8,7 @@ ghost use Rattle.octets.specs.helpers.Bits.{Bits};
 ghost use Rattle.url.specs.Grammar.{rules};
 ghost use Rattle.url.specs.Reading.{verdict};
 ghost use Rattle.url.specs.Places.{text-at};
-ghost use Rattle.url.specs.helpers.Scan.{Hexes, Found, AfterHost, BeforePath, BeforeQuery};
+ghost use Rattle.url.specs.helpers.Scan.{Hexes, Found, AfterHost, PortRead, BeforePath, BeforeQuery};
 ghost use Rattle.url.specs.helpers.Scan.{host-start, url-with};
 use octets::Class;
 use octets::Refusal;
@@ -57,6 +57,12 @@ pub enum Reading {
     Refused(Refusal),
 }
 
+// A port, and the place behind it; or the digit with which it passes the limit.
+enum Port {
+    Read { port: u16, at: usize },
+    Above(usize),
+}
+
 // Where a text with escapes ends, or breaks off inside an escape.
 enum Ending {
     Ends(usize),
@@ -87,7 +93,13 @@ pub fn read(s: &[u8]) -> Reading
             place: SCHEME_LENGTH,
         });
     }
-    read_port(s, end)
+    match read_port(s, end) {
+        Port::Above(place) => Reading::Refused(Refusal {
+            number: octets::NUMBER_ABOVE_LIMIT,
+            place,
+        }),
+        Port::Read { port, at } => read_path(s, end, port, at),
+    }
 }
 
 // The bytes of a value that stand at a span, as far as it has them.
@@ -106,24 +118,33 @@ pub fn text_at<'a>(s: &'a [u8], x: Span) -> &'a [u8]
     &s[start..end]
 }
 
-// Reads on from the place behind the host.
-fn read_port(s: &[u8], host_end: usize) -> Reading
+// The port behind the host, and the place where a path may begin.
+fn read_port(s: &[u8], host_end: usize) -> Port
     requires { ⌜ AfterHost (now s) «host_end» ⌝ }
-    ensures { λ r. ⌜ verdict r ≡ header rules (now (s .entry)) ⌝ }
+    ensures { λ r. ⌜ PortRead (now (s .entry)) «host_end» r ⌝ }
 {
     if s.len() <= host_end {
-        return read_path(s, host_end, DEFAULT_PORT, host_end);
+        return Port::Read {
+            port: DEFAULT_PORT,
+            at: host_end,
+        };
     }
     if s[host_end] != b':' {
-        return read_path(s, host_end, DEFAULT_PORT, host_end);
+        return Port::Read {
+            port: DEFAULT_PORT,
+            at: host_end,
+        };
     }
     match scans::read_decimal(s, host_end + 1, PORT_LIMIT) {
-        Decimal::Number { value, end } => read_path(s, host_end, value as u16, end),
-        Decimal::Above { place, end: _ } => Reading::Refused(Refusal {
-            number: octets::NUMBER_ABOVE_LIMIT,
-            place,
-        }),
-        Decimal::Missing => read_path(s, host_end, DEFAULT_PORT, host_end + 1),
+        Decimal::Number { value, end } => Port::Read {
+            port: value as u16,
+            at: end,
+        },
+        Decimal::Above { place, end: _ } => Port::Above(place),
+        Decimal::Missing => Port::Read {
+            port: DEFAULT_PORT,
+            at: host_end + 1,
+        },
     }
 }
 

@@ -1,6 +1,6 @@
 //! The chunked reader against a plain one-pass decoder and a bare copy of the same data.
 
-use crate::measure::{timed, times_as_long, Ratio};
+use crate::measure::{thousands, timed, times_as_long, Ratio};
 use independent::generate::Rng;
 use independent::plain::{plain_decode, Answer};
 use quizotepec::{chunked_decode, Decoded, Span};
@@ -10,8 +10,15 @@ use std::time::Duration;
 pub const BODY: usize = 8 << 20;
 const ROUNDS: usize = 101;
 
-/// The longest chunk where lengths are random.
-const RANDOM_CHUNK: usize = 64;
+/// The longest chunks where lengths are random.
+const SHORT_CHUNK: usize = 64;
+const LONG_CHUNK: usize = 8_192;
+
+/// The data of an Ethernet frame with IP and TCP.
+pub const PACKET: usize = 1_460;
+
+/// A chunk extension.
+const EXTENSION: &str = ";a=b";
 
 /// What the output holds before each call.
 #[derive(Clone, Copy)]
@@ -23,19 +30,33 @@ pub enum Output {
 }
 
 pub const OUTPUTS: [(&str, Output); 2] = [("kept", Output::Kept), ("cleared", Output::Cleared)];
+/// What the headings say of them.
+pub const OUTPUT_WORDS: &str =
+    "Each output was written to before: it is kept as that left it, or cleared outside the timing.";
 
-pub fn frame(body: &[u8], mut chunk_len: impl FnMut() -> usize) -> Vec<u8> {
+/// Bytes of data that nothing is known of.
+pub fn random_body(length: usize) -> Vec<u8> {
+    let mut rng = Rng::new(1);
+    (0..length).map(|_| rng.byte()).collect()
+}
+
+/// Each chunk line but the last ends with the extension.
+fn frame_with(extension: &str, body: &[u8], mut chunk_len: impl FnMut() -> usize) -> Vec<u8> {
     let mut frame = Vec::new();
     let mut rest = body;
     while !rest.is_empty() {
         let (chunk, behind) = rest.split_at(chunk_len().min(rest.len()));
-        frame.extend_from_slice(format!("{:X}\r\n", chunk.len()).as_bytes());
+        frame.extend_from_slice(format!("{:X}{extension}\r\n", chunk.len()).as_bytes());
         frame.extend_from_slice(chunk);
         frame.extend_from_slice(b"\r\n");
         rest = behind;
     }
     frame.extend_from_slice(b"0\r\n\r\n");
     frame
+}
+
+pub fn frame(body: &[u8], chunk_len: impl FnMut() -> usize) -> Vec<u8> {
+    frame_with("", body, chunk_len)
 }
 
 /// What ours and the plain decoder say of a whole body with a trailer of so many bytes.
@@ -76,24 +97,43 @@ fn compare(body: &[u8], frame: &[u8], output: Output) -> [Ratio; 2] {
     [ratios[0], ratios[1]]
 }
 
+/// The chunk lengths in words, and the body in such chunks.
+type Framed = (String, Vec<u8>);
+
+pub fn framed(body: &[u8], chunk_len: usize) -> Framed {
+    (thousands(chunk_len), frame(body, || chunk_len))
+}
+
+fn framed_random(body: &[u8], longest: usize) -> Framed {
+    let mut rng = Rng::new(2);
+    (format!("1 to {}, random", thousands(longest)), frame(body, || 1 + rng.below(longest)))
+}
+
+/// In random chunks of few bytes.
+pub fn framed_short(body: &[u8]) -> Framed {
+    framed_random(body, SHORT_CHUNK)
+}
+
+fn frames(body: &[u8]) -> Vec<Framed> {
+    let mut frames: Vec<_> = [16, 64, 256, PACKET, 4_096, 65_536].map(|length| framed(body, length)).into();
+    frames.extend([framed_short(body), framed_random(body, LONG_CHUNK)]);
+    frames.push((format!("16 with {EXTENSION}"), frame_with(EXTENSION, body, || 16)));
+    let mut rng = Rng::new(2);
+    let random = frame_with(EXTENSION, body, || 1 + rng.below(SHORT_CHUNK));
+    frames.push((format!("1 to {SHORT_CHUNK}, random, with {EXTENSION}"), random));
+    frames
+}
+
 pub fn print() {
-    let mut rng = Rng::new(1);
-    let body: Vec<u8> = (0..BODY).map(|_| rng.byte()).collect();
-    let frames = [
-        ("16", frame(&body, || 16)),
-        ("4,096", frame(&body, || 4_096)),
-        ("1 to 64, random", frame(&body, || 1 + rng.below(RANDOM_CHUNK))),
-    ];
+    let body = random_body(BODY);
     println!("Decoding 8 MiB: how many times as long ours takes; medians of {ROUNDS} rounds, and quartiles.");
-    println!(
-        "The output was written to before; each call finds it as it was, or cleared outside the timing."
-    );
+    println!("{OUTPUT_WORDS}");
     let (plain, copy) = ("against plain Rust", "against a bare copy");
-    println!("{:16} {:8} {plain:>26} {copy:>26}", "chunk length", "output");
-    for (name, frame) in &frames {
+    println!("{:28} {:8} {plain:>26} {copy:>26}", "chunk length", "output");
+    for (name, frame) in &frames(&body) {
         for (words, output) in OUTPUTS {
             let [plain, copy] = compare(&body, frame, output);
-            println!("{name:16} {words:8} {:>26} {:>26}", plain.to_string(), copy.to_string());
+            println!("{name:28} {words:8} {:>26} {:>26}", plain.to_string(), copy.to_string());
         }
     }
 }

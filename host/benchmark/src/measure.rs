@@ -14,13 +14,37 @@ pub fn timed<A>(run: impl FnOnce() -> A) -> (Duration, A) {
 }
 
 /// The time of so many readings.
-pub fn readings<A>(count: usize, mut read: impl FnMut() -> A) -> Duration {
+fn readings<A>(count: usize, mut read: impl FnMut() -> A) -> Duration {
     let read_all = || {
         for _ in 0..count {
             black_box(read());
         }
     };
     timed(read_all).0
+}
+
+/// Short rounds, and many of them: another process then disturbs few.
+pub const SHORT_ROUNDS: usize = 999;
+/// About how many bytes of header values a short round reads.
+const SHORT_ROUND_BYTES: usize = 1 << 17;
+
+/// How many readings of so many bytes a short round has.
+pub fn count_for(bytes: usize) -> usize {
+    SHORT_ROUND_BYTES.div_ceil(bytes)
+}
+
+/// How many times as long as the other's our readings take, in short rounds of so many.
+pub fn against<A, B>(count: usize, mut ours: impl FnMut() -> A, mut other: impl FnMut() -> B) -> Ratio {
+    let mut our_round = || readings(count, &mut ours);
+    let mut other_round = || readings(count, &mut other);
+    times_as_long(SHORT_ROUNDS, &mut [&mut our_round, &mut other_round])[0]
+}
+
+/// The digits of a number in groups of three.
+pub fn thousands(number: usize) -> String {
+    let digits = number.to_string();
+    let groups: Vec<_> = digits.as_bytes().rchunks(3).rev().map(String::from_utf8_lossy).collect();
+    groups.join(",")
 }
 
 /// The median of one ratio to a round, and the quartiles, which show how far the rounds differ.
@@ -46,8 +70,8 @@ impl fmt::Display for Ratio {
     }
 }
 
-/// How many times as long as each of the others the first contender takes. Each round lets every contender run
-/// once, beginning with another one than the round before.
+/// How many times as long as each of the others the first contender takes. Each round lets every contender
+/// run once, beginning with another one than the round before.
 pub fn times_as_long(rounds: usize, contenders: &mut [Round]) -> Vec<Ratio> {
     let count = contenders.len();
     let mut ratios = vec![Vec::with_capacity(rounds); count];
@@ -76,6 +100,12 @@ mod tests {
         let ratio = Ratio::of(vec![9.0, 1.0, 2.0, 4.0, 3.0]);
         assert_eq!(ratio, Ratio { low: 2.0, median: 3.0, high: 4.0 });
         assert_eq!(ratio.to_string(), "3.00 (2.00 to 4.00)");
+    }
+
+    #[test]
+    fn commas_stand_before_three_digits() {
+        let numbers = [0, 64, 999, 1_000, 65_536, 1_048_576];
+        assert_eq!(numbers.map(thousands), ["0", "64", "999", "1,000", "65,536", "1,048,576"]);
     }
 
     #[test]

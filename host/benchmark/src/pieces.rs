@@ -1,19 +1,16 @@
 //! The reader in pieces against a plain incremental decoder that is fed the same pieces.
 
-use crate::bodies::{frame, lent, whole, Output, BODY, OUTPUTS};
-use crate::measure::{times_as_long, Ratio};
-use independent::generate::Rng;
+use crate::bodies::{framed, framed_short, lent, random_body, whole, Output};
+use crate::bodies::{BODY, OUTPUTS, OUTPUT_WORDS, PACKET};
+use crate::measure::{thousands, times_as_long, Ratio};
 use independent::plain::Answer;
 use independent::plain_pieces::PlainPieces;
 use quizotepec::{Decoded, Pieces};
 use std::hint::black_box;
 
 const ROUNDS: usize = 101;
-/// In pieces of one byte, where a round takes long.
-const FEW_ROUNDS: usize = 11;
-
-/// The data of an Ethernet frame with IP and TCP.
-const PACKET: usize = 1_460;
+/// In pieces of other lengths than a packet's, of which some take long.
+const FEW_ROUNDS: usize = 5;
 
 pub fn ours(frame: &[u8], piece_len: usize, out: &mut [u8]) -> Decoded {
     let mut pieces = Pieces::new(out);
@@ -25,7 +22,7 @@ pub fn ours(frame: &[u8], piece_len: usize, out: &mut [u8]) -> Decoded {
 }
 
 pub fn plain(frame: &[u8], piece_len: usize, out: &mut [u8]) -> Answer {
-    let mut pieces = PlainPieces::default();
+    let mut pieces = PlainPieces::start(out.len());
     let mut answer = Answer::More;
     for piece in frame.chunks(piece_len) {
         answer = pieces.feed(black_box(piece), usize::MAX, out).answer;
@@ -54,18 +51,16 @@ fn compare(rounds: usize, body: &[u8], frame: &[u8], piece_len: usize, output: O
 }
 
 pub fn print() {
-    let mut rng = Rng::new(2);
-    let body: Vec<u8> = (0..BODY).map(|_| rng.byte()).collect();
-    println!(
-        "Decoding 8 MiB in pieces: how many times as long ours takes as plain Rust that is fed the same;"
-    );
-    println!("medians of {ROUNDS} rounds ({FEW_ROUNDS} in pieces of one byte), and quartiles.");
+    let body = random_body(BODY);
+    println!("Decoding 8 MiB in pieces: how many times as long ours takes as plain Rust, fed the same;");
+    let packet = thousands(PACKET);
+    println!("medians of {ROUNDS} rounds in pieces of {packet} and {FEW_ROUNDS} in others, and quartiles.");
+    println!("{OUTPUT_WORDS}");
     println!("{:16} {:16} {:8} {:>26}", "chunk length", "piece length", "output", "against plain Rust");
-    for (chunk_words, chunk_len) in [("16", 16), ("4,096", 4_096)] {
-        let frame = frame(&body, || chunk_len);
-        for (piece_words, piece_len, rounds) in
-            [("1,460", PACKET, ROUNDS), ("one piece", frame.len(), ROUNDS), ("1", 1, FEW_ROUNDS)]
-        {
+    for (chunk_words, frame) in [framed(&body, 16), framed(&body, 4_096), framed_short(&body)] {
+        let whole = ("one piece".to_string(), frame.len(), FEW_ROUNDS);
+        let packets = (packet.clone(), PACKET, ROUNDS);
+        for (piece_words, piece_len, rounds) in [packets, whole, ("1".to_string(), 1, FEW_ROUNDS)] {
             for (words, output) in OUTPUTS {
                 let ratio = compare(rounds, &body, &frame, piece_len, output).to_string();
                 println!("{chunk_words:16} {piece_words:16} {words:8} {ratio:>26}");

@@ -1,16 +1,12 @@
 //! Short bodies with a trailer: both readers against the plain decoders.
 
 use crate::bodies::whole;
-use crate::measure::{timed, times_as_long, Ratio};
+use crate::measure::{against, count_for, Ratio, SHORT_ROUNDS};
 use crate::pieces;
 use independent::plain::{plain_decode, Answer};
 use quizotepec::{chunked_decode, Decoded};
 use std::hint::black_box;
-use std::time::Duration;
 
-const ROUNDS: usize = 101;
-/// How often a round reads the body.
-const READINGS: usize = 1_000;
 /// How often the lines stand in the trailer.
 const TIMES: usize = 2;
 
@@ -31,16 +27,6 @@ fn trailer() -> Vec<u8> {
     LINES.concat().repeat(TIMES).into_bytes()
 }
 
-/// The time of many readings.
-fn round<A>(mut read: impl FnMut() -> A) -> Duration {
-    let read_all = || {
-        for _ in 0..READINGS {
-            black_box(read());
-        }
-    };
-    timed(read_all).0
-}
-
 fn compare(ours: impl Fn(&[u8], &mut [u8]) -> Decoded, plain: impl Fn(&[u8], &mut [u8]) -> Answer) -> Ratio {
     let trailer = trailer();
     let frame = [format!("{:X}\r\n", DATA.len()).as_bytes(), DATA, b"\r\n0\r\n", &trailer, b"\r\n"].concat();
@@ -48,17 +34,21 @@ fn compare(ours: impl Fn(&[u8], &mut [u8]) -> Decoded, plain: impl Fn(&[u8], &mu
     let [first, second] = &mut outputs;
     let answers = (ours(&frame, first), plain(&frame, second));
     assert_eq!(answers, whole(frame.len(), DATA.len(), trailer.len()));
-    let mut ours = || round(|| ours(black_box(&frame), black_box(first)));
-    let mut plain = || round(|| plain(black_box(&frame), black_box(second)));
-    let ratio = times_as_long(ROUNDS, &mut [&mut ours, &mut plain])[0];
+    let ratio = against(
+        count_for(frame.len()),
+        || ours(black_box(&frame), black_box(first)),
+        || plain(black_box(&frame), black_box(second)),
+    );
     assert!(outputs.iter().all(|out| out == DATA), "the data differ");
     ratio
 }
 
 pub fn print() {
     let (lines, bytes) = (LINES.len() * TIMES, trailer().len());
-    println!("Decoding a short body with {lines} trailer lines, {bytes} bytes: how many times as long ours takes as");
-    println!("plain Rust; medians of {ROUNDS} rounds of {READINGS} readings, and quartiles.");
+    println!("Decoding a short body with {lines} trailer lines, {bytes} bytes:");
+    println!("how many times as long ours takes as plain Rust;");
+    println!("medians of {SHORT_ROUNDS} short rounds, and quartiles.");
+    println!("The output is kept as the call before left it.");
     println!("{:16} {:>26}", "reader", "against plain Rust");
     println!("{:16} {:>26}", "one call", compare(chunked_decode, plain_decode).to_string());
     for (name, piece_len) in [("one piece", usize::MAX), ("pieces of 64", 64), ("pieces of 1", 1)] {

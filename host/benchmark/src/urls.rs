@@ -1,29 +1,25 @@
 //! Normal forms of URLs against a plain writer.
 
-use crate::measure::{readings, times_as_long, Ratio};
+use crate::measure::{against, count_for, Ratio, SHORT_ROUNDS};
 use independent::plain_values;
 use quizotepec::url_normalize;
 use std::hint::black_box;
-
-const ROUNDS: usize = 101;
-/// About how many bytes a round reads.
-const BYTES: usize = 1 << 20;
 
 fn compare(url: &[u8]) -> Ratio {
     let (mut out, mut plain_out) = ([0; 8_192], [0; 8_192]);
     let length = url_normalize(url, &mut out).expect("a URL");
     assert_eq!(plain_values::url_normalize(url, &mut plain_out), Ok(length));
     assert_eq!(out[..length], plain_out[..length]);
-    let count = BYTES / url.len();
-    let mut ours = || readings(count, || url_normalize(black_box(url), black_box(&mut out)));
-    let mut plain =
-        || readings(count, || plain_values::url_normalize(black_box(url), black_box(&mut plain_out)));
-    times_as_long(ROUNDS, &mut [&mut ours, &mut plain])[0]
+    against(
+        count_for(url.len()),
+        || url_normalize(black_box(url), black_box(&mut out)),
+        || plain_values::url_normalize(black_box(url), black_box(&mut plain_out)),
+    )
 }
 
 pub fn print() {
-    println!("Normal forms of URLs: how many times as long ours takes as plain Rust; medians of {ROUNDS} rounds, and");
-    println!("quartiles.");
+    println!("Normal forms of URLs: how many times as long ours takes as plain Rust;");
+    println!("medians of {SHORT_ROUNDS} short rounds, and quartiles.");
     println!("{:24} {:>26}", "URL", "against plain Rust");
     for (name, url) in [
         ("31 bytes, normal", "http://abc.com/~smith/home.html".to_string()),

@@ -19,7 +19,7 @@ pub const FORBIDDEN_FIELDS: [&str; 3] = ["Transfer-Encoding", "Content-Length", 
 pub const FORBIDDEN_LONGEST: usize = FORBIDDEN_FIELDS[0].len();
 
 const HEX: u32 = 16;
-const LAST_CHUNK: &[u8] = b"0\r\n\r\n";
+pub(crate) const LAST_CHUNK: &[u8] = b"0\r\n\r\n";
 
 const LINE: Name = "line";
 const SIZE: Name = "size";

@@ -20,7 +20,7 @@ const ATTRIBUTE: Name = "attribute";
 const TOKEN_VALUE: Name = "token value";
 const QUOTED_VALUE: Name = "quoted value";
 
-#[derive(Clone, Copy, Debug, PartialEq, Eq, Hash)]
+#[derive(Clone, Copy, Debug, Default, PartialEq, Eq, Hash)]
 pub struct Parameter {
     pub attribute: Span,
     /// A quoted value's bytes without its quotes, pairs as sent.

@@ -1,12 +1,14 @@
-//! A chunked decoder in one pass, for speed: the baseline of the benchmarks.
+//! A chunked decoder in one pass and a writer, for speed: the baseline of the benchmarks.
 //!
-//! It copies each chunk as it goes, so a body that turns out not to be whole leaves bytes in the output.
-//! Its answers are those of `chunked::decode`.
+//! The decoder copies each chunk as it goes, so a body that turns out not to be whole leaves bytes in the
+//! output. Its answers are those of `chunked::decode`.
 
-use crate::chunked::{is_forbidden, LINE_LIMIT, TRAILER_LIMIT};
-use crate::number::{BODY_TOO_LARGE, FORBIDDEN_FIELD, LINE_TOO_LONG, MALFORMED, TRAILER_TOO_LONG};
-use crate::rules::{is_text, is_token_byte};
-use crate::{Refusal, Span};
+use crate::chunked::{is_forbidden, BODY_LIMIT, LAST_CHUNK, LINE_LIMIT, TRAILER_LIMIT};
+use crate::number::{
+    BODY_TOO_LARGE, FORBIDDEN_FIELD, LINE_TOO_LONG, MALFORMED, OUTPUT_TOO_SHORT, TRAILER_TOO_LONG,
+};
+use crate::plain_classes::{is_in, HEX_VALUES, NO_DIGIT, PAIR, TEXT, TOKEN};
+use crate::{Refusal, Span, OUT_OF_RANGE};
 
 #[derive(Clone, Copy, Debug, PartialEq, Eq, Hash)]
 pub enum Answer {
@@ -34,20 +36,6 @@ struct Reader<'a> {
 }
 
 const CRLF: &[u8] = b"\r\n";
-const NO_DIGIT: u8 = u8::MAX;
-/// The value of each byte that is a hex digit.
-const HEX: [u8; 256] = hex_values();
-
-const fn hex_values() -> [u8; 256] {
-    let mut values = [NO_DIGIT; 256];
-    let mut value = 0;
-    while value < 16 {
-        values[b"0123456789abcdef"[value] as usize] = value as u8;
-        values[b"0123456789ABCDEF"[value] as usize] = value as u8;
-        value += 1;
-    }
-    values
-}
 
 fn refused<T>(number: u8, place: usize) -> Step<T> {
     Err(Stop::Refused(Refusal::new(number, place)))
@@ -76,16 +64,17 @@ impl Reader<'_> {
         self.take()
     }
 
-    fn run(&mut self, class: fn(u8) -> bool) -> Step<usize> {
+    #[inline]
+    fn run(&mut self, class: u8) -> Step<usize> {
         let start = self.at;
-        while class(self.peek()?) {
+        while is_in(self.peek()?, class) {
             self.take()?;
         }
         Ok(self.at - start)
     }
 
     fn token(&mut self) -> Step<()> {
-        match self.run(is_token_byte)? {
+        match self.run(TOKEN)? {
             0 => refused(MALFORMED, self.at),
             _ => Ok(()),
         }
@@ -94,13 +83,13 @@ impl Reader<'_> {
     fn quoted_rest(&mut self) -> Step<()> {
         loop {
             let byte = self.peek()?;
-            if !is_text(byte) {
+            if !is_in(byte, TEXT) {
                 return refused(MALFORMED, self.at);
             }
             self.take()?;
             match byte {
                 b'"' => return Ok(()),
-                b'\\' if is_text(self.peek()?) && self.peek()? < 128 => self.take()?,
+                b'\\' if is_in(self.peek()?, PAIR) => self.take()?,
                 b'\\' => return refused(MALFORMED, self.at),
                 _ => {}
             }
@@ -164,7 +153,7 @@ fn no_line_break(input: &[u8], at: usize) -> Stop {
 fn chunk_size(input: &[u8], start: usize, room_left: usize) -> Step<(usize, usize)> {
     let (mut at, mut value) = (start, 0);
     loop {
-        let digit = HEX[usize::from(*input.get(at).ok_or(Stop::More)?)];
+        let digit = HEX_VALUES[usize::from(*input.get(at).ok_or(Stop::More)?)];
         if digit == NO_DIGIT {
             break;
         }
@@ -200,7 +189,7 @@ fn trailer(input: &[u8], start: usize) -> Step<(Span, usize)> {
     let mut lines = Reader { input, at: start, start, limit: TRAILER_LIMIT, refusal: TRAILER_TOO_LONG };
     while lines.peek()? != b'\r' {
         lines.field_name()?;
-        lines.run(is_text)?;
+        lines.run(TEXT)?;
         lines.expect(b'\r')?;
         lines.expect(b'\n')?;
     }
@@ -230,4 +219,76 @@ pub fn plain_decode(input: &[u8], out: &mut [u8]) -> Answer {
         Err(Stop::More) => Answer::More,
         Err(Stop::Refused(refusal)) => Answer::Refused(refusal),
     }
+}
+
+/// The size line of a chunk: its hex digits in capitals, then CRLF, at the front of the bytes.
+struct SizeLine {
+    bytes: [u8; SizeLine::LONGEST],
+    length: usize,
+}
+
+impl SizeLine {
+    const LONGEST: usize = usize::BITS as usize / 4 + CRLF.len();
+
+    /// Of a size above 0.
+    fn new(size: usize) -> Self {
+        let digits = (usize::BITS - size.leading_zeros()).div_ceil(4) as usize;
+        let length = digits + CRLF.len();
+        let mut bytes = [0; SizeLine::LONGEST];
+        for (place, byte) in bytes[..digits].iter_mut().rev().enumerate() {
+            *byte = b"0123456789ABCDEF"[size >> (4 * place) & 0xF];
+        }
+        bytes[digits..length].copy_from_slice(CRLF);
+        SizeLine { bytes, length }
+    }
+
+    /// The length of a chunk of this size, framing included.
+    fn framed(&self, size: usize) -> usize {
+        self.length + size + CRLF.len()
+    }
+
+    /// Fills the output, which is as long as the framed chunk.
+    #[inline]
+    fn write(&self, chunk: &[u8], out: &mut [u8]) {
+        let (line, out) = out.split_at_mut(self.length);
+        line.copy_from_slice(&self.bytes[..self.length]);
+        let (data, end) = out.split_at_mut(chunk.len());
+        data.copy_from_slice(chunk);
+        end.copy_from_slice(CRLF);
+    }
+}
+
+/// Writes full chunks of equal length, and what remains of the output behind them.
+fn write_full<'a>(body: &[u8], chunk_len: usize, line: &SizeLine, out: &'a mut [u8]) -> &'a mut [u8] {
+    let framed = line.framed(chunk_len);
+    let (full, behind) = out.split_at_mut(body.len() / chunk_len * framed);
+    for (chunk, out) in body.chunks_exact(chunk_len).zip(full.chunks_exact_mut(framed)) {
+        line.write(chunk, out);
+    }
+    behind
+}
+
+/// Its answers are those of `chunked::encode`; what is written stands at the front of the output.
+pub fn plain_encode(body: &[u8], chunk_len: usize, out: &mut [u8]) -> Result<usize, Refusal> {
+    if chunk_len == 0 {
+        return Err(OUT_OF_RANGE);
+    }
+    if body.len() > BODY_LIMIT {
+        return Err(Refusal::new(BODY_TOO_LARGE, 0));
+    }
+    // A longer chunk length gives the same one chunk; of an empty body, none.
+    let chunk_len = chunk_len.min(body.len().max(1));
+    let rest = body.chunks_exact(chunk_len).remainder();
+    let (line, rest_line) = (SizeLine::new(chunk_len), SizeLine::new(rest.len()));
+    let rest_framed = if rest.is_empty() { 0 } else { rest_line.framed(rest.len()) };
+    let length = body.len() / chunk_len * line.framed(chunk_len) + rest_framed + LAST_CHUNK.len();
+    let Some(out) = out.get_mut(..length) else {
+        return Err(Refusal::new(OUTPUT_TOO_SHORT, 0));
+    };
+    let (rest_out, end) = write_full(body, chunk_len, &line, out).split_at_mut(rest_framed);
+    if !rest.is_empty() {
+        rest_line.write(rest, rest_out);
+    }
+    end.copy_from_slice(LAST_CHUNK);
+    Ok(length)
 }

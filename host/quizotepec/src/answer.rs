@@ -4,6 +4,7 @@ use crate::raw;
 use crate::{Refusal, Refused, Which};
 
 /// `answer`, or the refusal where the number is not 0.
+#[inline]
 pub(crate) fn unless_refused<T>(number: u8, place: usize, answer: T) -> Result<T, Refusal> {
     match number {
         0 => Ok(answer),
@@ -12,6 +13,7 @@ pub(crate) fn unless_refused<T>(number: u8, place: usize, answer: T) -> Result<T
 }
 
 /// `answer`, or which input was refused where the number is not 0.
+#[inline]
 pub(crate) fn unless_one_refused<T>(number: u8, place: usize, which: u8, answer: T) -> Result<T, Refused> {
     let which = if which == 1 { Which::First } else { Which::Second };
     unless_refused(number, place, answer).map_err(|refusal| Refused { which, refusal })
@@ -23,6 +25,7 @@ pub(crate) fn written(w: raw::QzWritten) -> Result<usize, Refusal> {
 }
 
 /// Whether two inputs are equal, or match.
+#[inline]
 pub(crate) fn same(s: raw::QzSame) -> Result<bool, Refused> {
     unless_one_refused(s.number, s.place, s.which, s.same)
 }

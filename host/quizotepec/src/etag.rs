@@ -31,6 +31,7 @@ impl EntityTag {
 /// let tag = quizotepec::etag_read(b"W/\"xyzzy\"").unwrap();
 /// assert_eq!((tag.weak, tag.opaque), (true, Span { start: 3, length: 5 }));
 /// ```
+#[inline]
 pub fn etag_read(value: &[u8]) -> Result<EntityTag, Refusal> {
     // SAFETY: the pointer is valid for reads of the length.
     let t = unsafe { raw::qz_etag_read(value.as_ptr(), value.len()) };
@@ -44,6 +45,7 @@ pub fn etag_read(value: &[u8]) -> Result<EntityTag, Refusal> {
 /// assert_eq!(quizotepec::etag_strong_match(b"\"a\"", b"\"a\""), Ok(true));
 /// assert_eq!(quizotepec::etag_strong_match(b"W/\"a\"", b"\"a\""), Ok(false));
 /// ```
+#[inline]
 pub fn etag_strong_match(first: &[u8], second: &[u8]) -> Result<bool, Refused> {
     // SAFETY: both pointers are valid for reads of their lengths.
     same(unsafe { raw::qz_etag_strong_match(first.as_ptr(), first.len(), second.as_ptr(), second.len()) })
@@ -54,6 +56,7 @@ pub fn etag_strong_match(first: &[u8], second: &[u8]) -> Result<bool, Refused> {
 /// ```
 /// assert_eq!(quizotepec::etag_weak_match(b"W/\"a\"", b"\"a\""), Ok(true));
 /// ```
+#[inline]
 pub fn etag_weak_match(first: &[u8], second: &[u8]) -> Result<bool, Refused> {
     // SAFETY: both pointers are valid for reads of their lengths.
     same(unsafe { raw::qz_etag_weak_match(first.as_ptr(), first.len(), second.as_ptr(), second.len()) })

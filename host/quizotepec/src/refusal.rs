@@ -102,7 +102,8 @@ pub enum Refusal {
 }
 
 impl Refusal {
-    /// The refusal that has this number in the library.
+    /// The refusal that has this number in the library. Kept out of line, so that an answer is one test away.
+    #[cold]
     pub(crate) fn numbered(number: u8, place: usize) -> Refusal {
         match number {
             raw::MALFORMED => Refusal::Malformed { place },

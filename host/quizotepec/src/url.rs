@@ -67,6 +67,7 @@ impl Url {
 /// // A port above 65,535 is refused at the digit that passes it.
 /// assert_eq!(url_read(b"http://a:65536/"), Err(Refusal::NumberAboveLimit { place: 13 }));
 /// ```
+#[inline]
 pub fn url_read(value: &[u8]) -> Result<Url, Refusal> {
     // SAFETY: the pointer is valid for reads of the length.
     let u = unsafe { raw::qz_url_read(value.as_ptr(), value.len()) };
@@ -82,6 +83,7 @@ pub fn url_read(value: &[u8]) -> Result<Url, Refusal> {
 /// assert_eq!(quizotepec::url_equal(page, b"http://ABC.com:/%7esmith/home.html"), Ok(true));
 /// assert_eq!(quizotepec::url_equal(b"http://a/%2F", b"http://a/%2f"), Ok(false));
 /// ```
+#[inline]
 pub fn url_equal(first: &[u8], second: &[u8]) -> Result<bool, Refused> {
     // SAFETY: both pointers are valid for reads of their lengths.
     same(unsafe { raw::qz_url_equal(first.as_ptr(), first.len(), second.as_ptr(), second.len()) })

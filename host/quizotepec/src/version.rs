@@ -51,6 +51,7 @@ impl FromStr for Version {
 /// let version = quizotepec::version_read(b"HTTP/01.1").unwrap();
 /// assert_eq!((version.major, version.minor), (1, 1));
 /// ```
+#[inline]
 pub fn version_read(value: &[u8]) -> Result<Version, Refusal> {
     // SAFETY: the pointer is valid for reads of the length, as a slice's is.
     let v = unsafe { raw::qz_version_read(value.as_ptr(), value.len()) };
@@ -63,6 +64,7 @@ pub fn version_read(value: &[u8]) -> Result<Version, Refusal> {
 /// use std::cmp::Ordering;
 /// assert_eq!(quizotepec::version_compare(b"HTTP/2.4", b"HTTP/2.13"), Ok(Ordering::Less));
 /// ```
+#[inline]
 pub fn version_compare(first: &[u8], second: &[u8]) -> Result<Ordering, Refused> {
     // SAFETY: both pointers are valid for reads of their lengths.
     let o = unsafe { raw::qz_version_compare(first.as_ptr(), first.len(), second.as_ptr(), second.len()) };

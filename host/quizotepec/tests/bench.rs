@@ -1,14 +1,20 @@
-//! The bench program, as it is built and linked, against the independent one: on lines of every kind, cut into pieces in many ways.
+//! The bench program, as it is built and linked, against the independent one and the plain one in C: on lines
+//! of every kind, cut into pieces in many ways.
 
-use independent::bench::{run, DIGIT_LIMIT};
-use independent::generate::{allowed_names, any, at_limits, forbidden_names, trailers_with, Kind, Rng};
-use std::io::Write;
-use std::path::PathBuf;
+use independent::bench::{run, DIGIT_LIMIT, ROOM};
+use independent::chunked::encode;
+use independent::generate::{allowed_names, forbidden_names, trailers_with, trailers_with_each_byte};
+use independent::generate::{any, at_limits, cut, damage, Kind, Rng};
+use std::io::{self, Write};
+use std::path::{Path, PathBuf};
 use std::process::{Child, Command, Output, Stdio};
+use std::sync::OnceLock;
 use std::thread;
 
 /// How many lines each seed makes.
 const LINES: usize = 20_000;
+/// How many long ones.
+const LONG_LINES: usize = 1_000;
 
 fn program() -> PathBuf {
     let path = PathBuf::from(env!("CARGO_MANIFEST_DIR")).join("../../target/bin/bench");
@@ -16,15 +22,41 @@ fn program() -> PathBuf {
     path
 }
 
-fn start(output: Stdio) -> Child {
-    let mut command = Command::new(program());
+/// The plain program in C, built once; none without a C compiler.
+fn plain_program() -> Option<&'static Path> {
+    static PROGRAM: OnceLock<Option<PathBuf>> = OnceLock::new();
+    let build = || {
+        let source = concat!(env!("CARGO_MANIFEST_DIR"), "/../independent/plain_bench.c");
+        let path = Path::new(env!("CARGO_TARGET_TMPDIR")).join("plain_bench_of_ours");
+        let flags = ["-std=c99", "-D_POSIX_C_SOURCE=200809L", "-O3", source, "-o"];
+        match Command::new("cc").args(flags).arg(&path).output() {
+            Ok(built) => {
+                assert!(built.status.success(), "{}", String::from_utf8_lossy(&built.stderr));
+                Some(path)
+            }
+            Err(error) if error.kind() == io::ErrorKind::NotFound => {
+                println!("skipped: there is no `cc` to build plain_bench.c with");
+                None
+            }
+            Err(error) => panic!("cc: {error}"),
+        }
+    };
+    PROGRAM.get_or_init(build).as_deref()
+}
+
+fn start(program: &Path, output: Stdio) -> Child {
+    let mut command = Command::new(program);
     command.stdin(Stdio::piped()).stdout(output).stderr(Stdio::piped());
     command.spawn().expect("the bench program starts")
 }
 
 /// Feeds the pieces one by one, each in a write of its own.
 fn fed(pieces: Vec<Vec<u8>>) -> Output {
-    let mut child = start(Stdio::piped());
+    fed_to(&program(), pieces)
+}
+
+fn fed_to(program: &Path, pieces: Vec<Vec<u8>>) -> Output {
+    let mut child = start(program, Stdio::piped());
     let mut input = child.stdin.take().expect("a pipe");
     let feeder = thread::spawn(move || {
         for piece in pieces {
@@ -38,7 +70,10 @@ fn fed(pieces: Vec<Vec<u8>>) -> Output {
 
 /// One line holds the mistake that a difference shows best.
 fn same(input: &[u8], output: &Output) {
-    let expected = run(input);
+    same_as(&run(input), input, output);
+}
+
+fn same_as(expected: &str, input: &[u8], output: &Output) {
     let said = String::from_utf8(output.stdout.clone()).expect("ASCII");
     let inputs = input.split(|byte| *byte == b'\n');
     for (line, (want, got)) in inputs.zip(expected.lines().zip(said.lines())) {
@@ -141,12 +176,46 @@ fn ends_of_input() {
     }
 }
 
+/// Both programs print the same, each fed at once.
+fn same_as_plain(input: &[u8]) {
+    let Some(plain) = plain_program() else { return };
+    let expected = fed_to(plain, vec![input.to_vec()]);
+    let expected = String::from_utf8(expected.stdout).expect("ASCII");
+    same_as(&expected, input, &fed(vec![input.to_vec()]));
+}
+
+#[test]
+fn generated_lines_as_plain() {
+    let mut rng = Rng::new(5);
+    same_as_plain(&input(&mut rng, LINES));
+    same_as_plain(&lines_of(&at_limits(Kind::Chunked), &mut rng));
+    same_as_plain(&lines_of(&trailers_with_each_byte(), &mut rng));
+}
+
+/// Bodies of up to as many bytes as a line has room for, in chunks of one length, some of them changed.
+#[test]
+fn long_lines_as_plain() {
+    let mut rng = Rng::new(6);
+    let mut frames = Vec::new();
+    for _ in 0..LONG_LINES {
+        let data: Vec<u8> = (0..rng.below(ROOM)).map(|_| rng.byte()).collect();
+        let longest = rng.pick(&[16, 64, 300, ROOM]);
+        let frame = encode(&data, 1 + rng.below(longest), usize::MAX).expect("a frame");
+        frames.push(match rng.below(4) {
+            0 => cut(frame, &mut rng),
+            1 => damage(frame, &mut rng),
+            _ => frame,
+        });
+    }
+    same_as_plain(&lines_of(&frames, &mut rng));
+}
+
 /// "A program has no exit status": it says on standard error that its output was lost.
 #[test]
 #[cfg(target_os = "linux")]
 fn lost_output_is_said() {
     let full = std::fs::OpenOptions::new().write(true).open("/dev/full").expect("/dev/full");
-    let mut child = start(Stdio::from(full));
+    let mut child = start(&program(), Stdio::from(full));
     let mut input = child.stdin.take().expect("a pipe");
     let feeder = thread::spawn(move || drop(input.write_all(b"300D0A0D0A\n")));
     let output = child.wait_with_output().expect("the program ends");

@@ -3,13 +3,12 @@
 
 mod common;
 
-use common::{at, lend, long_names, names, raw, refusal, span, whole, Lent, RANDOM};
+use common::{at, call, decoded, lend, long_names, names, raw, whole, Lent, RANDOM};
 use independent::chunked::{encode, LINE_LIMIT, TRAILER_LIMIT};
 use independent::generate::{any, any_body, at_limits, damage, every, rooms, short, Kind, Rng};
 use independent::generate::{body_with_names, trailers_with, trailers_with_each_byte};
 use independent::generate::{cuttings, every_cutting, pieces_of, quotas};
 use independent::pieces::{Pieces as Theirs, FRAMED_LIMIT};
-use independent::plain::Answer;
 use quizotepec::{chunked_decode, Decoded, Fed, Pieces, Refusal, Span};
 
 const HELLO: &[u8] = b"5\r\nhello\r\n0\r\n\r\n";
@@ -24,42 +23,10 @@ const CUT: usize = 1_000;
 /// Bytes of data of a long body.
 const LONG: usize = 20_000;
 
-fn decoded(answer: Answer) -> Decoded {
-    match answer {
-        Answer::Whole { taken, length, trailer } => Decoded::Whole { taken, length, trailer: span(trailer) },
-        Answer::More => Decoded::More,
-        Answer::Refused(r) => Decoded::Refused(refusal(r)),
-    }
-}
-
-/// Fields without a meaning are zero.
-fn answer_of(b: raw::QzBody) -> Decoded {
-    let trailer = Span { start: b.trailer_start, length: b.trailer_length };
-    match (b.state, b.number, b.place, [b.taken, b.length, trailer.start, trailer.length]) {
-        (raw::WHOLE, 0, 0, _) => Decoded::Whole { taken: b.taken, length: b.length, trailer },
-        (raw::MORE, 0, 0, [0, 0, 0, 0]) => Decoded::More,
-        (raw::REFUSED, number, place, [0, 0, 0, 0]) => Decoded::Refused(at(number, place)),
-        fields => panic!("{fields:?}"),
-    }
-}
-
 fn fields(state: raw::QzPieces) -> [usize; 9] {
     let raw::QzPieces { position, part, name, size, length, total, taken, room, refused } = state;
     let [position, part, name] = [position, part, name].map(usize::from);
     [position, part, name, size, length, total, taken, room, refused]
-}
-
-/// One call as C makes it. The piece lies between canaries, and beyond the quota it holds other bytes.
-fn call(state: &mut raw::QzPieces, piece: &[u8], quota: usize, out: &mut [u8]) -> Fed {
-    let mut lent = Lent::of(piece);
-    lent.bytes().iter_mut().skip(quota).for_each(|byte| *byte = !*byte);
-    let before = lent.clone();
-    let from = lent.bytes().as_ptr();
-    // SAFETY: the pointers and the lengths are those of two slices that do not overlap.
-    let fed = unsafe { raw::qz_pieces_feed(*state, from, piece.len(), quota, out.as_mut_ptr(), out.len()) };
-    assert_eq!(lent, before, "the piece or the bytes around it");
-    *state = fed.pieces;
-    Fed { took: fed.took, answer: answer_of(fed.body) }
 }
 
 /// A body that both read, each into an output between canaries.

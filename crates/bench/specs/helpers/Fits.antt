@@ -8,7 +8,7 @@ use Rattle.report.specs.Calls.{LINE_LENGTH}
 
 abbrev pub Buffers : List ℕ → List ℕ → List ℕ → List ℕ → List ℕ → Type 0
 Buffers piece line frame room out =
-    (length piece ≡ 4096) × (length line ≡ LINE_LENGTH) × (length frame ≡ ROOM) × (length room ≡ ROOM) × (length out ≡ 65552)
+    (length piece ≡ 16384) × (length line ≡ LINE_LENGTH) × (length frame ≡ ROOM) × (length room ≡ ROOM) × (length out ≡ 262160)
 
 abbrev pub PieceFits : List ℕ → List ℕ → ℕ → List ℕ → List ℕ → List ℕ → Type 0
 PieceFits piece line held frame room out =

@@ -1,21 +1,32 @@
 -- `chunk_writer::put_frame` meets its contract. The bytes taken are framed, and what is still to come is the frame of the others.
-use mathlib.Core.Path.{_∙_}
+use mathlib.Core.Path.{_≡_, _∙_, ap}
 use borrow.Author.Needs.{needs}
-use Prim.Native.Nat.{_-_}
+use Prim.Native.Nat.{ℕ, _+_, _-_, _<_, _≤_}
 use native.Mathlib.Omega.{arith}
 use lib.ListN.{length}
+use Rattle.numerals.specs.Numeral.{numeral}
+use Rattle.chunk_writer.specs.Writing.{frame}
+use Rattle.chunk_writer.specs.helpers.Lines.{LineOf}
+use Rattle.chunk_writer.proofs.Cuts.{hex-short}
 use Rattle.chunk_writer.proofs.Puts.{Framed, framed-start, framed-length, framed-fits, framed-on, framed-all}
 use Rattle.chunk_writer.proofs.put_frame.Statement.{statement}
 use Rattle.chunk_writer.proofs.put_frame.Tie as tie
 
 abbrev Inv-loop : tie.InvT-loop
-Inv-loop body chunk-len out₀ taken₀ at₀ out taken at = Framed body chunk-len out₀ out taken at
+Inv-loop body chunk-len out₀ line width taken₀ at₀ out taken at =
+    Framed body chunk-len out₀ out taken at × (0 < chunk-len) × (length (frame body chunk-len) ≤ length out₀)
+    × LineOf chunk-len line × (width ≡ length (numeral 16 chunk-len) + 2)
 
 abbrev μ-loop : tie.MeasureT-loop
-μ-loop body chunk-len out₀ taken₀ at₀ out taken at = length body - taken
+μ-loop body chunk-len out₀ line width taken₀ at₀ out taken at = length body - taken
+
+add-width : tie.Need-add-width Inv-loop μ-loop
+add-width c = omega (arith, c .hex-width .ensures, hex-short (c .before .before .before .before .args .chunk-len) (omega arith))
 
 loop-holds : tie.Need-loop-holds Inv-loop μ-loop
-loop-holds c = framed-start
+loop-holds c =
+    let s = c .before .before .before .before in
+    (framed-start, s .pre .0, s .pre .1, c .before .size-line .ensures, ap (λ (n : ℕ). n + 2) (c .hex-width .ensures))
 
 sub-least : tie.Need-sub-least Inv-loop μ-loop
 sub-least c = omega arith
@@ -23,23 +34,23 @@ sub-least c = omega arith
 least-requires : tie.Need-least-requires Inv-loop μ-loop
 least-requires c κs = search needs
 
-add-put-chunk : tie.Need-add-put-chunk Inv-loop μ-loop
-add-put-chunk c = omega (arith, c .least .ensures)
+add-put-part : tie.Need-add-put-part Inv-loop μ-loop
+add-put-part c = omega (arith, c .least .ensures)
 
-sub-put-chunk : tie.Need-sub-put-chunk Inv-loop μ-loop
-sub-put-chunk c = omega arith
+sub-put-part : tie.Need-sub-put-part Inv-loop μ-loop
+sub-put-part c = omega arith
 
-part-put-chunk-start : tie.Need-part-put-chunk-start Inv-loop μ-loop
-part-put-chunk-start c = omega arith
+part-put-part-start : tie.Need-part-put-part-start Inv-loop μ-loop
+part-put-part-start c = omega arith
 
-part-put-chunk-end : tie.Need-part-put-chunk-end Inv-loop μ-loop
-part-put-chunk-end c = omega (arith, c .least .ensures)
+part-put-part-end : tie.Need-part-put-part-end Inv-loop μ-loop
+part-put-part-end c = omega (arith, c .least .ensures)
 
-put-chunk-requires : tie.Need-put-chunk-requires Inv-loop μ-loop
-put-chunk-requires c κs =
+put-part-requires : tie.Need-put-part-requires Inv-loop μ-loop
+put-part-requires c κs =
     let l = c .before .before .before in
-    let s = l .before .before .before .before .pre in
-    framed-fits (s .1) (l .before .loop .inv) (s .0) (l .loop-test .taken) (c .before .before .least .ensures)
+    let i = l .before .loop .inv in
+    (framed-fits (i .2) (i .0) (i .1) (l .loop-test .taken) (c .before .before .least .ensures), i .3, i .4)
 
 add-taken : tie.Need-add-taken Inv-loop μ-loop
 add-taken c =
@@ -49,28 +60,29 @@ add-taken c =
 loop-less : tie.Need-loop-less Inv-loop μ-loop
 loop-less c =
     let l = c .before .before .before .before .before in
-    omega (arith, l .before .before .before .before .before .pre .0, l .least .ensures, l .before .loop-test .taken)
+    omega (arith, l .before .before .loop .inv .1, l .least .ensures, l .before .loop-test .taken)
 
 loop-again : tie.Need-loop-again Inv-loop μ-loop
 loop-again c =
     let k = c .before .before .before .before .before in
     let l = k .before in
-    let s = l .before .before .before .before .pre in
-    let p = c .before .before .put-chunk .ensures in
-    framed-on (s .1) (l .before .loop .inv) (s .0) (l .loop-test .taken) (k .least .ensures) (p .0) (p .1)
+    let i = l .before .loop .inv in
+    let p = c .before .before .put-part .ensures in
+    (framed-on (i .2) (i .0) (i .1) (l .loop-test .taken) (k .least .ensures) (p .0) (p .1), i .1, i .2, i .3, i .4)
 
 put-end-requires : tie.Need-put-end-requires Inv-loop μ-loop
 put-end-requires c κs = search needs
 
 same-length : tie.Need-same-length Inv-loop μ-loop
 same-length c =
-    let l = c .before .before .before .before .before in
-    c .before .before .put-end .kept .0 ∙ framed-length (l .before .before .before .pre .1) (l .loop .inv)
+    let i = c .before .before .before .before .before .loop .inv in
+    c .before .before .put-end .kept .0 ∙ framed-length (i .2) (i .0)
 
 returns : tie.Need-returns Inv-loop μ-loop
 returns c =
     let l = c .before .before .before .before in
-    framed-all (l .before .before .before .before .pre .1) (l .before .loop .inv) (l .loop-test .left) (c .before .before .put-end .ensures)
+    let i = l .before .loop .inv in
+    framed-all (i .2) (i .0) (l .loop-test .left) (c .before .before .put-end .ensures)
 
 pub put-frame-spec : {M : Type 1} → statement M
 put-frame-spec =
@@ -78,14 +90,17 @@ put-frame-spec =
     (tie.spec
     Inv-loop
     μ-loop
+    (λ c κs. search needs)
+    (λ c κs. search needs)
+    add-width
     loop-holds
     sub-least
     least-requires
-    add-put-chunk
-    sub-put-chunk
-    part-put-chunk-start
-    part-put-chunk-end
-    put-chunk-requires
+    add-put-part
+    sub-put-part
+    part-put-part-start
+    part-put-part-end
+    put-part-requires
     add-taken
     loop-less
     loop-again

@@ -1,204 +1,92 @@
--- `chunked::copy` meets its contract. The loop stands before a chunk line, with the data behind it written.
+-- `chunked::copy` meets its contract. The loop stands before a chunk line, with the data behind it written; chunks with the rest follow.
 use native.Mathlib.Omega.{arith}
 use borrow.Author.Needs.{needs}
-use mathlib.Core.Path.{_≡_, subst}
-use Prim.Native.Nat.{ℕ, _-_}
+use mathlib.Core.Path.{_≡_}
+use Prim.Native.Nat.{ℕ, _-_, _+_}
 use lib.ListN.{length}
-use Rattle.chunked.specs.declared.Found.{Found}
-use Rattle.chunked.specs.helpers.Passes.{Copied, Known, ChunkRead}
-use Rattle.chunked.proofs.Passes.{first-fits, last-length}
-use Rattle.chunked.proofs.Chunks.{none-known, chunk-known}
-use Rattle.chunked.proofs.Copies.{copied-start, copied-length, copied-fits, copied-on, read-copied-on, copied-all}
+use Rattle.chunked.specs.helpers.Passes.{Copied, Known, ChunksTo}
+use Rattle.chunked.proofs.Chunks.{none-known}
+use Rattle.chunked.proofs.Short.{some-chunk, next-chunk}
+use Rattle.chunked.proofs.Copies.{copied-start, copied-on, copied-all}
 use Rattle.chunked.proofs.copy.Statement.{statement}
 use Rattle.chunked.proofs.copy.Tie as tie
 
 abbrev Inv-loop : tie.InvT-loop
-Inv-loop input out₀ len room at₀ written₀ last₀ out at written last = Copied input out₀ out at written × Known input last
+Inv-loop input out₀ len at₀ written₀ last₀ out at written last =
+    Copied input out₀ out len at written × Known input last × (n : ℕ) × (written + n ≡ len) × (j : ℕ) × ChunksTo input at j n
 
 abbrev μ-loop : tie.MeasureT-loop
-μ-loop input out₀ len room at₀ written₀ last₀ out at written last = length input - at
+μ-loop input out₀ len at₀ written₀ last₀ out at written last = len - written
 
--- what `chunk` found
-found : (c : tie.After-chunk Inv-loop μ-loop) {r : Found} → c .chunk .result ≡ r
-    → ChunkRead (length (c .before .before .before .before .before .before .before .args .out .now))
-    (c .before .before .before .before .before .before .before .args .input .now)
-    (c .before .before .before .before .loop .at) (c .before .before .before .before .loop .written) r
-found c e =
-    let l = c .before .before .before .before in
-    let s = l .before .before .before .args in
-    subst (ChunkRead (length (s .out .now)) (s .input .now) (l .loop .at) (l .loop .written)) e (c .chunk .ensures)
+-- behind the line that was read come chunks with the rest
+rest : (c : tie.After-next-line Inv-loop μ-loop)
+    → let l = c .before .before in
+    let r = c .next-line .result in
+    (m : ℕ) × (l .loop .inv .2 ≡ r .size + m)
+    × ChunksTo (l .before .before .before .args .input .now) (l .loop .at + r .length + r .size + 2) (l .loop .inv .4) m
+rest c =
+    let l = c .before .before in
+    next-chunk (l .loop .inv .5) (omega (arith, l .loop .inv .3, c .before .loop-test .taken)) (c .next-line .result .length)
+    (c .next-line .result .size) (c .next-line .ensures .1)
 
 loop-holds : tie.Need-loop-holds Inv-loop μ-loop
-loop-holds c = (copied-start, none-known)
+loop-holds c = (copied-start, none-known, c .before .before .args .len, omega arith, c .before .before .pre .1 .1 .0, c .before .before .pre .1 .1 .1)
 
-sub-again : tie.Need-sub-again Inv-loop μ-loop
-sub-again c = first-fits (c .before .loop .inv .0 .at)
+next-line-requires : tie.Need-next-line-requires Inv-loop μ-loop
+next-line-requires c κs =
+    let l = c .before in
+    (l .loop .inv .1, some-chunk (l .loop .inv .5) (omega (arith, l .loop .inv .3, c .loop-test .taken)))
 
-again-requires : tie.Need-again-requires Inv-loop μ-loop
-again-requires c κs = (c .before .loop .inv .0 .at .within, c .before .loop .inv .1)
-
--- ## A chunk like the last one
 add-start : tie.Need-add-start Inv-loop μ-loop
-add-start c =
-    let r = c .before .before .again .ensures (c .before .if1 .taken) in
-    omega (arith, r .1 .end .inside)
+add-start c = omega (arith, c .before .next-line .ensures .1 .end .inside)
 
-add-copy : tie.Need-add-copy Inv-loop μ-loop
-add-copy c =
-    let t = c .before .before in
-    omega (arith, t .before .again .ensures (t .if1 .taken) .0, first-fits (t .before .before .before .loop .inv .0 .at))
-
-sub-copy : tie.Need-sub-copy Inv-loop μ-loop
-sub-copy c = omega arith
-
-part-copy-start : tie.Need-part-copy-start Inv-loop μ-loop
-part-copy-start c = omega arith
-
-part-copy-end : tie.Need-part-copy-end Inv-loop μ-loop
-part-copy-end c =
-    let t = c .before .before in
-    omega (arith, copied-fits (t .before .before .before .loop .inv .0) (t .before .again .ensures (t .if1 .taken) .0))
-
-add-copy-2 : tie.Need-add-copy-2 Inv-loop μ-loop
-add-copy-2 c =
-    let t = c .before .before .before .before in
-    omega (arith, t .before .again .ensures (t .if1 .taken) .1 .end .inside)
-
-sub-copy-2 : tie.Need-sub-copy-2 Inv-loop μ-loop
-sub-copy-2 c = omega arith
-
-part-copy-start-2 : tie.Need-part-copy-start-2 Inv-loop μ-loop
-part-copy-start-2 c = omega arith
-
-part-copy-end-2 : tie.Need-part-copy-end-2 Inv-loop μ-loop
-part-copy-end-2 c =
-    let t = c .before .before .before .before in
-    omega (arith, t .before .again .ensures (t .if1 .taken) .1 .end .inside)
+put-data-requires : tie.Need-put-data-requires Inv-loop μ-loop
+put-data-requires c κs =
+    let n = c .before .before .before in
+    let l = n .before .before in (
+      omega (arith, n .next-line .ensures .1 .end .inside),
+      omega (arith, l .loop .inv .3, rest n .1),
+      omega (arith, l .loop .inv .0 .lent, l .before .before .before .pre .1 .0),
+      c .widest .ensures,
+    )
 
 add-at : tie.Need-add-at Inv-loop μ-loop
-add-at c =
-    let t = c .before .before .before .before .before .before .before .before .before in
-    omega (arith, t .before .again .ensures (t .if1 .taken) .1 .end .inside)
+add-at c = omega (arith, c .before .before .before .before .before .before .before .before .next-line .ensures .1 .end .inside)
 
 add-at-2 : tie.Need-add-at-2 Inv-loop μ-loop
-add-at-2 c =
-    let t = c .before .before .before .before .before .before .before .before .before in
-    omega (arith, t .before .again .ensures (t .if1 .taken) .1 .end .inside)
+add-at-2 c = omega (arith, c .before .before .before .before .before .before .before .before .next-line .ensures .1 .end .inside)
 
 add-written : tie.Need-add-written Inv-loop μ-loop
 add-written c =
-    let t = c .before .before .before .before .before .before .before .before .before .before in
-    omega (arith, t .before .again .ensures (t .if1 .taken) .0, first-fits (t .before .before .before .loop .inv .0 .at))
+    let n = c .before .before .before .before .before .before .before .before .before in
+    omega (arith, n .before .before .loop .inv .3, rest n .1, n .before .before .before .before .before .pre .1 .0)
 
 loop-less : tie.Need-loop-less Inv-loop μ-loop
 loop-less c =
-    let t = c .before .before .before .before .before .before .before .before .before .before in
-    omega (arith, t .before .again .ensures (t .if1 .taken) .1 .end .inside)
+    let n = c .before .before .before .before .before .before .before .before .before in
+    omega (arith, n .next-line .ensures .1 .some, n .before .loop-test .taken)
 
 loop-again : tie.Need-loop-again Inv-loop μ-loop
 loop-again c =
-    let t = c .before .before .before .before .before .before .before .before .before .before in
-    let l = t .before .before .before in
-    let r = t .before .again .ensures (t .if1 .taken) in (
-      copied-on (λ (k : ℕ). omega (arith, l .before .before .shared-slice-known .given k)) _ (l .loop .inv .0) (r .1)
-          (omega (arith, r .0, first-fits (l .loop .inv .0 .at))) (c .before .before .before .before .copy .ensures),
-      l .loop .inv .1,
+    let n = c .before .before .before .before .before .before .before .before .before in
+    let l = n .before .before in
+    let r = n .next-line .ensures in (
+      copied-on (λ (k : ℕ). omega (arith, l .before .before .shared-slice-known .given k)) (l .loop .inv .0) (r .1)
+          (omega (arith, l .loop .inv .3, rest n .1, l .before .before .before .pre .1 .0)) (c .before .before .before .before .before .put-data .ensures),
+      c .before .before .remembered .ensures (l .before .before .before .args .input .now) (r .0),
+      rest n .0,
+      omega (arith, l .loop .inv .3, rest n .1),
+      l .loop .inv .4,
+      rest n .2,
     )
 
--- ## Another chunk
-chunk-requires : tie.Need-chunk-requires Inv-loop μ-loop
-chunk-requires c κs = c .before .before .before .loop .inv .0 .at
-
 same-length : tie.Need-same-length Inv-loop μ-loop
-same-length c = copied-length (c .before .before .before .before .before .before .loop .inv .0)
+same-length c = c .before .loop .inv .0 .lent
 
 returns : tie.Need-returns Inv-loop μ-loop
 returns c =
-    let i = c .before .before .before .before .before in
-    let s = i .before .before .before .before in
-    let r = found (c .before .before) (c .enum-told .given .1) in
-    absurd (omega (arith, last-length r (s .pre .0) (s .pre .1), s .pre .2, i .loop-test .taken))
-
-add-copy-3 : tie.Need-add-copy-3 Inv-loop μ-loop
-add-copy-3 c =
-    let z = c .before in
-    omega (arith, found (z .before .before) (z .size .given .1) .1)
-
-sub-copy-3 : tie.Need-sub-copy-3 Inv-loop μ-loop
-sub-copy-3 c = omega arith
-
-part-copy-start-3 : tie.Need-part-copy-start-3 Inv-loop μ-loop
-part-copy-start-3 c = omega arith
-
-part-copy-end-3 : tie.Need-part-copy-end-3 Inv-loop μ-loop
-part-copy-end-3 c =
-    let z = c .before in
-    let l = z .before .before .before .before .before .before in
-    omega (arith, found (z .before .before) (z .size .given .1) .1, copied-length (l .loop .inv .0))
-
-add-copy-4 : tie.Need-add-copy-4 Inv-loop μ-loop
-add-copy-4 c =
-    let z = c .before .before in
-    let r = found (z .before .before) (z .size .given .1) in
-    omega (arith, r .0, r .2 .end .inside)
-
-sub-copy-4 : tie.Need-sub-copy-4 Inv-loop μ-loop
-sub-copy-4 c = omega arith
-
-part-copy-start-4 : tie.Need-part-copy-start-4 Inv-loop μ-loop
-part-copy-start-4 c = omega arith
-
-part-copy-end-4 : tie.Need-part-copy-end-4 Inv-loop μ-loop
-part-copy-end-4 c =
-    let z = c .before .before in
-    let r = found (z .before .before) (z .size .given .1) in
-    omega (arith, r .0, r .2 .end .inside)
-
-sub-length : tie.Need-sub-length Inv-loop μ-loop
-sub-length c =
-    let z = c .before .before .before .before .before .before in
-    found (z .before .before) (z .size .given .1) .0
-
-add-at-3 : tie.Need-add-at-3 Inv-loop μ-loop
-add-at-3 c =
-    let z = c .before .before .before .before .before .before in
-    let r = found (z .before .before) (z .size .given .1) in
-    omega (arith, r .0, r .2 .end .inside)
-
-add-at-4 : tie.Need-add-at-4 Inv-loop μ-loop
-add-at-4 c =
-    let z = c .before .before .before .before .before .before in
-    let r = found (z .before .before) (z .size .given .1) in
-    omega (arith, r .0, r .2 .end .inside)
-
-add-written-2 : tie.Need-add-written-2 Inv-loop μ-loop
-add-written-2 c =
-    let z = c .before .before .before .before .before .before in
-    omega (arith, found (z .before .before) (z .size .given .1) .1)
-
-loop-less-2 : tie.Need-loop-less-2 Inv-loop μ-loop
-loop-less-2 c =
-    let z = c .before .before .before .before .before .before in
-    let r = found (z .before .before) (z .size .given .1) in
-    omega (arith, r .0, r .2 .end .inside)
-
-loop-again-2 : tie.Need-loop-again-2 Inv-loop μ-loop
-loop-again-2 c =
-    let z = c .before .before .before .before .before .before in
-    let l = z .before .before .before .before .before .before in
-    let r = found (z .before .before) (z .size .given .1) in (
-      read-copied-on (λ (k : ℕ). omega (arith, l .before .before .shared-slice-known .given k)) _ (l .loop .inv .0) (r .0) (r .1) (r .2)
-          (c .before .before .copy2 .ensures),
-      chunk-known (r .2),
-    )
-
-same-length-2 : tie.Need-same-length-2 Inv-loop μ-loop
-same-length-2 c = copied-length (c .before .loop .inv .0)
-
-returns-2 : tie.Need-returns-2 Inv-loop μ-loop
-returns-2 c =
-    let w = c .before .before .before .before .pre in
-    copied-all (w .1) (c .before .loop .inv .0) (omega (arith, w .2, c .loop-test .left))
+    let w = c .before .before .before .before .pre .0 in
+    copied-all (w .1) (w .2) (c .before .loop .inv .0) (omega (arith, c .loop-test .left))
 
 pub copy-spec : {M : Type 1} → statement M
 copy-spec =
@@ -207,42 +95,16 @@ copy-spec =
     Inv-loop
     μ-loop
     loop-holds
-    sub-again
-    again-requires
+    (λ c. search needs)
+    next-line-requires
     add-start
-    add-copy
-    sub-copy
-    part-copy-start
-    part-copy-end
-    add-copy-2
-    sub-copy-2
-    part-copy-start-2
-    part-copy-end-2
+    (λ c κs. search needs)
+    put-data-requires
     (λ c κs. search needs)
     add-at
     add-at-2
     add-written
     loop-less
     loop-again
-    chunk-requires
-    (λ c. search needs)
     same-length
-    returns
-    (λ c. search needs)
-    add-copy-3
-    sub-copy-3
-    part-copy-start-3
-    part-copy-end-3
-    add-copy-4
-    sub-copy-4
-    part-copy-start-4
-    part-copy-end-4
-    (λ c κs. search needs)
-    sub-length
-    add-at-3
-    add-at-4
-    add-written-2
-    loop-less-2
-    loop-again-2
-    same-length-2
-    returns-2)
+    returns)

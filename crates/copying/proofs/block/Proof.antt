@@ -1,4 +1,5 @@
-use Rattle.copying.proofs.Runs.{Front, front-on, front-even}
+use Rattle.copying.specs.helpers.Runs.{Front}
+use Rattle.copying.proofs.Runs.{front-on, front-even}
 use mathlib.Core.Path.{_≡_, refl, sym}
 use lib.ListN.{length}
 use Prim.Native.Nat.{_-_, _≤_}

@@ -38,7 +38,7 @@ returns : tie.Need-returns
 returns c =
     let s = c .before .before .before .before .before .before .before .before .args in
     let p = c .before .before in
-    block-at (s .src .now) (s .dst .now) (p .put-block .last .0) (s .at) (p .put-block .ensures ∙ p .before .block .ensures)
+    block-at 16 (s .src .now) (s .dst .now) (p .put-block .last .0) (s .at) (p .put-block .ensures ∙ p .before .block .ensures)
 
 pub copy-block-spec : {M : Type 1} → statement M
 copy-block-spec =

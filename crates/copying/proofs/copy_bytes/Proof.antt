@@ -2,7 +2,8 @@ use borrow.Author.Needs.{needs}
 use Prim.Native.Nat.{_-_}
 use native.Mathlib.Omega.{arith}
 use lib.ListN.{length}
-use Rattle.copying.proofs.Runs.{Front, front-length, front-on, front-all}
+use Rattle.copying.specs.helpers.Runs.{Front}
+use Rattle.copying.proofs.Runs.{front-length, front-on, front-all}
 use Rattle.copying.proofs.copy_bytes.Statement.{statement}
 use Rattle.copying.proofs.copy_bytes.Tie as tie
 

@@ -5,7 +5,8 @@ use borrow.Author.Needs.{needs}
 use mathlib.Core.Path.{_≡_, refl, sym, ap, subst, _∙_}
 use lib.ListN.{length, drop, set, drop-of-length-le, length-drop}
 use Rattle.numerals.proofs.Digits.{put-fits}
-use Rattle.copying.proofs.Runs.{Front, front-length, front-on, front-all}
+use Rattle.copying.specs.helpers.Runs.{Front}
+use Rattle.copying.proofs.Runs.{front-length, front-on, front-all}
 use Rattle.escapes.specs.Resolved.{resolved}
 use Rattle.escapes.proofs.Resolved.{first-of}
 use Rattle.escapes.proofs.fill.Statement.{statement}

@@ -1,10 +1,10 @@
 -- `lines::put_pairs` meets its contract. The first `at` pairs are put.
 use mathlib.Core.Path.{_≡_, refl}
-use Prim.Native.Nat.{_+_, _-_, _*_}
+use Prim.Native.Nat.{_-_, _*_}
 use native.Mathlib.Omega.{arith}
 use lib.ListN.{length}
-use borrow.Author.Needs.{needs}
-use Rattle.lines.proofs.Hexes.{digit-below, pair-is, Filling, filling-start, filling-on, filling-all}
+use Rattle.octets.specs.Bytes.{hex?}
+use Rattle.lines.proofs.Hexes.{every-at, pair-is, Filling, filling-start, filling-on, filling-all}
 use Rattle.lines.proofs.put_pairs.Statement.{statement}
 use Rattle.lines.proofs.put_pairs.Tie as tie
 
@@ -17,41 +17,11 @@ abbrev μ-loop : tie.MeasureT-loop
 loop-holds : tie.Need-loop-holds Inv-loop μ-loop
 loop-holds c = (refl, filling-start (c .before .before .pre .0))
 
-shared-slice-read-hex-value : tie.Need-shared-slice-read-hex-value Inv-loop μ-loop
-shared-slice-read-hex-value c = omega arith
-
-hex-value-requires : tie.Need-hex-value-requires Inv-loop μ-loop
-hex-value-requires c κs = search needs
-
-mul-out : tie.Need-mul-out Inv-loop μ-loop
-mul-out c =
-    let at-loop = c .before .before .before in
-    let loop = at-loop .loop in
-    let start = at-loop .before .before .before in
+pair-requires : tie.Need-pair-requires Inv-loop μ-loop
+pair-requires c κs =
+    let start = c .before .before .before .before .before .before in
     let line = start .args .line .now in
-    omega (arith, digit-below line (start .pre .1) (loop .digit) (c .hex-value .result) (omega arith) (c .hex-value .ensures))
-
-add-hex-value : tie.Need-add-hex-value Inv-loop μ-loop
-add-hex-value c = omega arith
-
-shared-slice-read-hex-value-2 : tie.Need-shared-slice-read-hex-value-2 Inv-loop μ-loop
-shared-slice-read-hex-value-2 c = omega arith
-
-hex-value-requires-2 : tie.Need-hex-value-requires-2 Inv-loop μ-loop
-hex-value-requires-2 c κs = search needs
-
-add-out : tie.Need-add-out Inv-loop μ-loop
-add-out c =
-    let at-first = c .before .before in
-    let at-loop = at-first .before .before .before in
-    let loop = at-loop .loop in
-    let start = at-loop .before .before .before in
-    let line = start .args .line .now in
-    omega (
-      arith,
-      digit-below line (start .pre .1) (loop .digit) (at-first .hex-value .result) (omega arith) (at-first .hex-value .ensures),
-      digit-below line (start .pre .1) (loop .digit + 1) (c .hex-value2 .result) (omega arith) (c .hex-value2 .ensures),
-    )
+    (every-at hex? line _ (start .pre .1) (omega arith), every-at hex? line _ (start .pre .1) (omega arith))
 
 slice-write-out : tie.Need-slice-write-out Inv-loop μ-loop
 slice-write-out c = omega arith
@@ -67,14 +37,11 @@ loop-less c = omega arith
 
 loop-again : tie.Need-loop-again Inv-loop μ-loop
 loop-again c =
-    let at-first = c .before .before in
-    let at-loop = at-first .before .before .before in
+    let at-loop = c .before .before .before .before in
     let loop = at-loop .loop in
-    let start = at-loop .before .before .before in
-    let line = start .args .line .now in
-    let pair = pair-is line (start .pre .1) (loop .at) (loop .digit) (at-first .hex-value .result) (c .hex-value2 .result) (loop .inv .0)
-    (omega arith) (at-first .hex-value .ensures) (c .hex-value2 .ensures) in
-    (omega arith, filling-on (loop .inv .1) (omega arith) pair)
+    let line = at-loop .before .before .before .args .line .now in
+    let byte = pair-is line (loop .at) (loop .digit) (c .pair .result) (loop .inv .0) (omega arith) (c .pair .ensures) in
+    (omega arith, filling-on (loop .inv .1) (omega arith) byte)
 
 same-length : tie.Need-same-length Inv-loop μ-loop
 same-length c = c .before .loop .inv .1 .even
@@ -89,13 +56,10 @@ put-pairs-spec =
     Inv-loop
     μ-loop
     loop-holds
-    shared-slice-read-hex-value
-    hex-value-requires
-    mul-out
-    add-hex-value
-    shared-slice-read-hex-value-2
-    hex-value-requires-2
-    add-out
+    (λ c. omega arith)
+    (λ c. omega arith)
+    (λ c. omega arith)
+    pair-requires
     slice-write-out
     add-at
     add-digit

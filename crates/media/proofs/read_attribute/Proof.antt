@@ -3,8 +3,6 @@ use native.Mathlib.Omega.{arith}
 use borrow.Author.Needs.{needs}
 use mathlib.Core.Path.{sym, _∙_}
 use lib.ListN.{take}
-use Rattle.octets.specs.Bytes.{token?}
-use Rattle.octets.proofs.Tables.{token-bits}
 use Rattle.media.proofs.Scan.{counted-in, table-placed, steps-on, name-none, name-run}
 use Rattle.media.proofs.Scan.{seventeenth, name-cut-off, equals-not, name-repeated, name-new}
 use Rattle.media.proofs.read_attribute.Statement.{statement}
@@ -13,28 +11,28 @@ use Rattle.media.proofs.read_attribute.Tie as tie
 returns : tie.Need-returns
 returns c =
     let z = c .before .before .before in
-    let g = c .before .class-end in
-    name-none (z .pre) (sym (g .ensures token? token-bits) ∙ c .if1 .taken)
+    let g = c .before .token-end in
+    name-none (z .pre) (sym (g .ensures) ∙ c .if1 .taken)
 
 returns-2 : tie.Need-returns-2
 returns-2 c =
     let z = c .before .before .before .before .before in
-    let g = c .before .before .before .class-end in
-    seventeenth (z .pre) (g .result) (g .ensures token? token-bits) (c .before .before .if1 .left)
+    let g = c .before .before .before .token-end in
+    seventeenth (z .pre) (g .result) (g .ensures) (c .before .before .if1 .left)
     (omega (arith, c .if2 .taken, counted-in (z .pre .before)))
 
 returns-3 : tie.Need-returns-3
 returns-3 c =
     let z = c .before .before .before .before .before .before in
-    let g = c .before .before .before .before .class-end in
-    name-cut-off (z .pre) (g .result) (g .ensures token? token-bits) (c .before .before .before .if1 .left)
+    let g = c .before .before .before .before .token-end in
+    name-cut-off (z .pre) (g .result) (g .ensures) (c .before .before .before .if1 .left)
     (omega (arith, c .before .if2 .left, counted-in (z .pre .before), z .pre .before .few)) (c .if3 .taken)
 
 returns-4 : tie.Need-returns-4
 returns-4 c =
     let z = c .before .before .before .before .before .before .before .before in
-    let g = c .before .before .before .before .before .before .class-end in
-    equals-not (z .pre) (g .result) (g .ensures token? token-bits) (c .before .before .before .before .before .if1 .left)
+    let g = c .before .before .before .before .before .before .token-end in
+    equals-not (z .pre) (g .result) (g .ensures) (c .before .before .before .before .before .if1 .left)
     (omega (arith, c .before .before .before .if2 .left, counted-in (z .pre .before), z .pre .before .few))
     (c .before .before .if3 .left) (c .if4 .taken)
 
@@ -42,16 +40,16 @@ is-repeated-requires : tie.Need-is-repeated-requires
 is-repeated-requires c κs =
     let z = c .before .before .before .before .before .before .before .before in
     let x = z .args in
-    let g = c .before .before .before .before .before .before .class-end in
-    let w = name-run (z .pre) (g .result) (g .ensures token? token-bits) (c .before .before .before .before .before .if1 .left) in
+    let g = c .before .before .before .before .before .before .token-end in
+    let w = name-run (z .pre) (g .result) (g .ensures) (c .before .before .before .before .before .if1 .left) in
     (w .0, (w .1, table-placed (x .found) (x .table) (x .start) (z .pre .before)))
 
 returns-5 : tie.Need-returns-5
 returns-5 c =
     let z = c .before .before .before .before .before .before .before .before .before .before in
-    let g = c .before .before .before .before .before .before .before .before .class-end in
+    let g = c .before .before .before .before .before .before .before .before .token-end in
     let e = sym (c .if5 .taken) ∙ c .before .is-repeated .ensures in
-    name-repeated (z .pre) (g .result) (g .ensures token? token-bits)
+    name-repeated (z .pre) (g .result) (g .ensures)
     (c .before .before .before .before .before .before .before .if1 .left)
     (omega (arith, c .before .before .before .before .before .if2 .left, counted-in (z .pre .before), z .pre .before .few))
     (c .before .before .before .before .if3 .left) (c .before .before .if4 .left) e
@@ -59,8 +57,8 @@ returns-5 c =
 read-value-requires : tie.Need-read-value-requires
 read-value-requires c κs =
     let z = c .before .before .before .before .before .before .before .before .before .before in
-    let g = c .before .before .before .before .before .before .before .before .class-end in (
-      name-run (z .pre) (g .result) (g .ensures token? token-bits)
+    let g = c .before .before .before .before .before .before .before .before .token-end in (
+      name-run (z .pre) (g .result) (g .ensures)
           (c .before .before .before .before .before .before .before .if1 .left) .0,
       c .before .before .before .before .if3 .left,
     )
@@ -71,9 +69,9 @@ returns-6 c =
     let x = z .args in
     let s = x .s .now in
     let ps = take (x .found .count) (x .table) in
-    let g = c .before .before .before .before .before .before .before .before .before .class-end in
+    let g = c .before .before .before .before .before .before .before .before .before .token-end in
     let e = sym (c .before .if5 .left) ∙ c .before .before .is-repeated .ensures in
-    let w = name-new (z .pre) (g .result) (g .ensures token? token-bits)
+    let w = name-new (z .pre) (g .result) (g .ensures)
     (c .before .before .before .before .before .before .before .before .if1 .left)
     (omega (arith, c .before .before .before .before .before .before .if2 .left, counted-in (z .pre .before), z .pre .before .few))
     (c .before .before .before .before .before .if3 .left) (c .before .before .before .if4 .left) e in

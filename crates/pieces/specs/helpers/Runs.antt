@@ -15,6 +15,8 @@ use Rattle.pieces.specs.Reading.{listed, over?, advance, gathered, fille
 use Rattle.pieces.specs.declared.Pieces.{Pieces}
 use Rattle.pieces.specs.declared.Plain.{Plain}
 use Rattle.pieces.specs.declared.Plain.the-variants as Plain
+use Rattle.pieces.specs.declared.Chunk.{Chunk}
+use Rattle.pieces.specs.declared.Chunk.the-variants as Chunk
 
 -- the numbers of a state are such as calls lead to
 pub record Sound (s : Pieces) : Type 0 where
@@ -71,7 +73,8 @@ abbrev pub PlainLine : List ℕ → ℕ → Plain → Type 0
 PlainLine bytes left (Plain.Size v n) = PlainSize bytes left v n
 PlainLine bytes left Plain.Other = Unit {0}
 
--- ## A chunk that lies whole in the bytes
-abbrev pub PlainChunk : List ℕ → ℕ → Plain → Type 0
-PlainChunk bytes left (Plain.Size v n) = PlainSize bytes left v n × CrlfAt bytes (n + v)
-PlainChunk bytes left Plain.Other = Unit {0}
+-- ## A chunk with such a line
+abbrev pub PlainChunk : List ℕ → ℕ → Chunk → Type 0
+PlainChunk bytes left (Chunk.Whole v n) = PlainSize bytes left v n × CrlfAt bytes (n + v)
+PlainChunk bytes left (Chunk.Begun v n) = PlainSize bytes left v n
+PlainChunk bytes left Chunk.Other = Unit {0}

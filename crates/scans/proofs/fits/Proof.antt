@@ -18,10 +18,13 @@ left-holds w d limit h = go (leb d (limit - w)) refl
     go false e = sym (lt-leb (w + d) limit (omega (arith, leb-false d (limit - w) e)))
 
 returns : tie.Need-returns
-returns c = let a = c .before .args in sym (lt-leb (a .value * 10 + a .digit) (a .limit) (omega arith))
+returns c = let a = c .before .args in sym (le-leb (a .value * 10 + a .digit) (a .limit) (omega arith))
 
 returns-2 : tie.Need-returns-2
-returns-2 c = let a = c .before .args in left-holds (a .value * 10) (a .digit) (a .limit) (omega arith)
+returns-2 c = let a = c .before .before .args in sym (lt-leb (a .value * 10 + a .digit) (a .limit) (omega arith))
+
+returns-3 : tie.Need-returns-3
+returns-3 c = let a = c .before .before .args in left-holds (a .value * 10) (a .digit) (a .limit) (omega arith)
 
 pub fits-spec : {M : Type 1} → statement M
-fits-spec = tie.close (tie.spec returns (λ c. search needs) (λ c. search needs) returns-2)
+fits-spec = tie.close (tie.spec returns returns-2 (λ c. search needs) (λ c. search needs) returns-3)

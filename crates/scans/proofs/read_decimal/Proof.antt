@@ -7,7 +7,7 @@ use mathlib.Core.Path.{_≡_, sym, ap, _∙_}
 use lib.ListN.{length, getD}
 use Rattle.octets.specs.Bytes.{digit?}
 use Rattle.octets.specs.Numbers.{grow}
-use Rattle.octets.proofs.Bytes.{digit-low}
+use Rattle.octets.proofs.Bytes.{digit-low, digit-high}
 use Rattle.octets.proofs.Tables.{digit-bits}
 use Rattle.scans.specs.declared.Decimal.the-variants.{Above}
 use Rattle.scans.specs.helpers.Decimals.{decimal-at}
@@ -34,6 +34,11 @@ sub-digit c = digit-low _ (sym (c .before .is-digit .ensures) ∙ not-false (c .
 
 cast-digit : tie.Need-cast-digit Inv-loop μ-loop
 cast-digit c = omega (arith, c .before .before .shared-slice-known2 .given (c .before .before .before .before .loop .i))
+
+fits-requires : tie.Need-fits-requires Inv-loop μ-loop
+fits-requires c κs =
+    let d = sym (c .before .is-digit .ensures) ∙ not-false (c .before .is-digit .result) (c .if1 .left) in
+    omega (arith, digit-high _ d)
 
 mul-value : tie.Need-mul-value Inv-loop μ-loop
 mul-value c =
@@ -83,7 +88,7 @@ read-decimal-spec =
     returns
     sub-digit
     cast-digit
-    (λ c κs. search needs)
+    fits-requires
     mul-value
     add-value
     (λ c κs. search needs)

@@ -2,7 +2,8 @@
 use Prim.Native.Nat.{_+_, _-_}
 use native.Mathlib.Omega.{arith}
 use borrow.Author.Needs.{needs}
-use mathlib.Core.Path.{_≡_, sym, _∙_}
+use mathlib.Core.Path.{_≡_, sym, ap, _∙_}
+use mathlib.Core.Logic.{⊎-elim}
 use lib.ListN.{length, drop, getD}
 use Rattle.grammar.specs.Grammar.{lower}
 use Rattle.scans.specs.helpers.Words.{agreeing}
@@ -24,18 +25,19 @@ returns c =
 
 returns-2 : tie.Need-returns-2 Inv-loop μ-loop
 returns-2 c =
-    let l = c .before .before .before .before .before .before .before .loop in
-    let x = c .before .before .before .before .before .before .before .before .before .before .args in
+    let l = c .before .before .before .before .before .before .before .before .before .before .loop in
+    let x = c .before .before .before .before .before .before .before .before .before .before .before .before .before .args in
     let differ : lower (getD (x .s .now) (l .j) 0) ≡ lower (getD (x .word .now) (l .i) 0) → ⊥ =
-    λ e. c .if2 .taken (c .before .before .before .lower-case .ensures ∙ e ∙ sym (c .before .lower-case2 .ensures)) in
+    λ e. c .if3 .taken (c .before .before .before .lower-case .ensures ∙ e ∙ sym (c .before .lower-case2 .ensures)) in
     omega (arith, agreeing-differs (x .word .now) (x .s .now) (l .i) (l .j) (omega arith) (omega arith) differ, l .inv)
 
 loop-again : tie.Need-loop-again Inv-loop μ-loop
 loop-again c =
-    let l = c .before .before .before .before .before .before .before .loop in
-    let x = c .before .before .before .before .before .before .before .before .before .before .args in
-    let e = sym (c .before .before .before .lower-case .ensures) ∙ c .if2 .left ∙ c .before .lower-case2 .ensures in
-    omega (arith, agreeing-next (x .word .now) (x .s .now) (l .i) (l .j) (omega arith) (omega arith) e, l .inv)
+    let l = c .before .before .before .before .before .loop in
+    let x = c .before .before .before .before .before .before .before .before .args in
+    let same : lower (getD (x .s .now) (l .j) 0) ≡ lower (getD (x .word .now) (l .i) 0) =
+    ⊎-elim (λ w. sym (w .2 .ensures) ∙ w .5 .left ∙ w .4 .ensures) (λ w. ap lower (w .left)) (c .if2 .came) in
+    omega (arith, agreeing-next (x .word .now) (x .s .now) (l .i) (l .j) (omega arith) (omega arith) same, l .inv)
 
 returns-3 : tie.Need-returns-3 Inv-loop μ-loop
 returns-3 c =
@@ -51,6 +53,8 @@ word-at-spec =
     μ-loop
     (λ c. search needs)
     returns
+    (λ c. search needs)
+    (λ c. search needs)
     (λ c. search needs)
     (λ c κs. search needs)
     (λ c. search needs)

@@ -7,6 +7,8 @@ use mathlib.Core.List.{List, [], _∷_, _++_}
 use mathlib.Core.Option.{Option, none, some}
 use lib.ListN.{length, getD}
 use Rattle.grammar.specs.Grammar.{Part, _⨾_}
+use Rattle.grammar.specs.Reading.{refused}
+use Rattle.grammar.specs.Refusals.{NUMBER_ABOVE_LIMIT}
 use Rattle.grammar.specs.helpers.Checks.{ahead}
 use Rattle.grammar.specs.helpers.Judge.{header}
 use Rattle.grammar.specs.helpers.Scans.{slice, from}
@@ -14,6 +16,8 @@ use Rattle.octets.specs.Bytes.{hex?}
 use Rattle.octets.specs.Numbers.{above?}
 use Rattle.url.specs.declared.Place.{Place}
 use Rattle.url.specs.declared.Url.{Url}
+use Rattle.url.specs.declared.Port.{Port}
+use Rattle.url.specs.declared.Port.the-variants.{Read, Above}
 use Rattle.url.specs.declared.Ending.{Ending}
 use Rattle.url.specs.declared.Ending.the-variants.{Ends, Breaks}
 use Rattle.url.specs.Grammar.{Name, host, port, path, port-part, path-part, query-part, port-text, default-port}
@@ -74,6 +78,11 @@ pub record BeforePath (s : List ℕ) (e n i : ℕ) : Type 0 where
   pub small : n ≤ largest-port
   pub quiet : above? is-port largest-port (heads s e digits i) ≡ false
   pub reads : header rules s ≡ from rules s (ahead (heads s e digits i) path-part) i
+
+-- the port was read, or passes its limit
+abbrev pub PortRead : List ℕ → ℕ → Port → Type 0
+PortRead s e (Read n i) = BeforePath s e n i
+PortRead s e (Above x) = header rules s ≡ refused NUMBER_ABOVE_LIMIT x
 
 abbrev pub path-at : List ℕ → ℕ → ℕ → Part Name
 path-at s i f = record { label = path; start = i; text = slice s i f }

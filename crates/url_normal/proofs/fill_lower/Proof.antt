@@ -4,7 +4,8 @@ use native.Mathlib.Omega.{arith}
 use borrow.Author.Needs.{needs}
 use mathlib.Core.Path.{refl, sym, subst, _∙_}
 use lib.ListN.{length, set}
-use Rattle.copying.proofs.Runs.{Front, front-length, front-on, front-even}
+use Rattle.copying.specs.helpers.Runs.{Front}
+use Rattle.copying.proofs.Runs.{front-length, front-on, front-even}
 use Rattle.url_equal.specs.Meaning.{lower-all}
 use Rattle.url_normal.proofs.Writer.{lower-length, lower-at}
 use Rattle.url_normal.proofs.fill_lower.Statement.{statement}

@@ -3,8 +3,9 @@
 
 use independent::chunked::FORBIDDEN_FIELDS;
 use independent::generate::{allowed_names, forbidden_names, Rng};
+use independent::plain::Answer;
 use independent::{date, number};
-use quizotepec::{Date, Decoded, Refusal, Refused, Span, Which};
+use quizotepec::{Date, Decoded, Fed, Refusal, Refused, Span, Which};
 use std::ops::Range;
 
 #[path = "../../src/raw.rs"]
@@ -153,6 +154,38 @@ pub fn long_names() -> Vec<Vec<u8>> {
 
 pub fn span(s: independent::Span) -> Span {
     Span { start: s.start, length: s.length }
+}
+
+pub fn decoded(answer: Answer) -> Decoded {
+    match answer {
+        Answer::Whole { taken, length, trailer } => Decoded::Whole { taken, length, trailer: span(trailer) },
+        Answer::More => Decoded::More,
+        Answer::Refused(r) => Decoded::Refused(refusal(r)),
+    }
+}
+
+/// Fields without a meaning are zero.
+fn answer_of(b: raw::QzBody) -> Decoded {
+    let trailer = Span { start: b.trailer_start, length: b.trailer_length };
+    match (b.state, b.number, b.place, [b.taken, b.length, trailer.start, trailer.length]) {
+        (raw::WHOLE, 0, 0, _) => Decoded::Whole { taken: b.taken, length: b.length, trailer },
+        (raw::MORE, 0, 0, [0, 0, 0, 0]) => Decoded::More,
+        (raw::REFUSED, number, place, [0, 0, 0, 0]) => Decoded::Refused(at(number, place)),
+        fields => panic!("{fields:?}"),
+    }
+}
+
+/// One call as C makes it. The piece lies between canaries, and beyond the quota it holds other bytes.
+pub fn call(state: &mut raw::QzPieces, piece: &[u8], quota: usize, out: &mut [u8]) -> Fed {
+    let mut lent = Lent::of(piece);
+    lent.bytes().iter_mut().skip(quota).for_each(|byte| *byte = !*byte);
+    let before = lent.clone();
+    let from = lent.bytes().as_ptr();
+    // SAFETY: the pointers and the lengths are those of two slices that do not overlap.
+    let fed = unsafe { raw::qz_pieces_feed(*state, from, piece.len(), quota, out.as_mut_ptr(), out.len()) };
+    assert_eq!(lent, before, "the piece or the bytes around it");
+    *state = fed.pieces;
+    Fed { took: fed.took, answer: answer_of(fed.body) }
 }
 
 /// A whole body without a trailer: "the start is the closing CRLF and the length 0".

@@ -1,12 +1,11 @@
 -- `Pieces::pass_lines` meets its contract.
 use borrow.Author.Needs.{needs}
-use mathlib.Core.Path.{_≡_, sym, _∙_, ap₂, subst}
+use mathlib.Core.Path.{_≡_, _∙_, ap₂}
 use Prim.Native.Nat.{ℕ}
 use Rattle.framing.specs.declared.LinePos.{LinePos}
 use Rattle.framing.specs.declared.LinePos.the-variants.{First}
 use Rattle.framing.specs.declared.State.the-variants.{Line}
-use Rattle.pieces.specs.helpers.Runs.{Passed}
-use Rattle.pieces.proofs.Passing.{ran-none, ran-passed, still-passed}
+use Rattle.pieces.proofs.Passing.{ran-none, ran-passed}
 use Rattle.pieces.proofs.Pieces.pass_lines.Statement.{statement}
 use Rattle.pieces.proofs.Pieces.pass_lines.Tie as tie
 
@@ -35,21 +34,8 @@ pass-chunks-requires c κs =
     let x = n .before .before .before .before .before .before in
     (x .pre .0, first n, x .pre .2)
 
-pass-line-requires : tie.Need-pass-line-requires
-pass-line-requires c κs =
-    let n = c .before .before .before .before .before .before .before in
-    let x = n .before .before .before .before .before .before in
-    (x .pre .0 .sound, x .pre .0 .going, first n, x .pre .2)
-
 returns-4 : tie.Need-returns-4
 returns-4 c =
-    let k = c .before .before .before .before .before .before in
-    let x = k .before .before .before .before .before .before .before .before in
-    subst (Passed (x .args .self) (x .args .bytes .now) (x .args .out .now) (c .pass-line .result))
-    (sym (still-passed (k .pass-chunks .ensures) (c .before .if3 .left))) (ran-passed (x .args .out .now) (c .pass-line .ensures))
-
-returns-5 : tie.Need-returns-5
-returns-5 c =
     let x = c .before .before .before .before .before in
     ran-passed (x .args .out .now) (ran-none (x .args .self) (x .args .bytes .now))
 
@@ -63,7 +49,4 @@ pass-lines-spec =
     pass-chunks-requires
     (λ c. search needs)
     (λ c. search needs)
-    pass-line-requires
-    (λ c. search needs)
-    returns-4
-    returns-5)
+    returns-4)

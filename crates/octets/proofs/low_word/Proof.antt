@@ -1,0 +1,17 @@
+-- `octets::low_word` meets its contract: on each branch the quotient is the index.
+use Prim.Native.Nat.{ℕ}
+use native.Mathlib.Omega.{arith}
+use mathlib.Core.Path.{ap}
+use lib.ListN.{getD}
+use borrow.Author.Needs.{needs}
+use Rattle.octets.proofs.low_word.Statement.{statement}
+use Rattle.octets.proofs.low_word.Tie as tie
+
+pub low-word-spec : {M : Type 1} → statement M
+low-word-spec =
+    tie.close
+    (tie.spec
+    (λ c. search needs)
+    (λ c. ap (λ (i : ℕ). getD (c .before .args .t1) i 0) (omega arith))
+    (λ c. search needs)
+    (λ c. ap (λ (i : ℕ). getD (c .before .args .t1) i 0) (omega arith)))
