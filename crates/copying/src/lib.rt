@@ -52,8 +52,8 @@ fn copy_rest(dst: &mut [u8], src: &[u8], from: usize)
     copy_block(dst, src, len - 16);
 }
 
-// Copies four blocks at a time as long as more than these is left, and gives how many bytes that were. One block at a time, chunks of 256
-// take 1.2 times as long.
+// Copies four blocks at a time as long as more than these is left, and gives how many bytes that were (with `same_line` of `chunked`, 0.8
+// of the time at chunks of 256).
 fn copy_wide(dst: &mut [u8], src: &[u8]) -> usize
     requires { ⌜ (length (now src) ≤ length (now dst)) × (0 < length (now src)) ⌝ }
     ensures { λ r. ⌜ Front (now (dst .entry)) (now (src .entry)) (now (dst .exit)) r × (r < length (now (src .entry))) ⌝ }
