@@ -1,4 +1,5 @@
 // Document 01's bench program: lines of hexadecimal, one frame a line, each decoded as a chunked body.
+#![tactic(auto)]
 ghost use Rattle.std.specs.Prelude.{◌≡◌, ◌+◌, length};
 ghost use Rattle.io.specs.Counts.{IsPrefixLen};
 ghost use Rattle.text.specs.Placing.{placed};
@@ -22,7 +23,7 @@ const PIECE: usize = 16384;
 const TEXT: usize = 262160;
 
 // What a piece of the input leaves: the bytes held of a line that it began, and the length of the text.
-#[derive(Drop)]
+#[derive(Clone, Copy)]
 struct Progress {
     held: usize,
     used: usize,

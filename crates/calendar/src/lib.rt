@@ -1,11 +1,12 @@
 // The Gregorian calendar and instants in seconds since 1970-01-01 00:00:00.
+#![tactic(auto)]
 ghost use Rattle.std.specs.Prelude.{◌≡◌, true, ◌+◌, ◌*◌, ◌/◌, ◌%◌, ◌≤◌, ◌<◌};
 ghost use Rattle.calendar.specs.Gregorian.{leap?, month_length, days_of_years, days_of_months, day_number, date?, time?};
 ghost use Rattle.calendar.specs.Instants.{located, told, in_range?, since_first, since_epoch};
 ghost use Rattle.calendar.specs.Instants.{years_before, months_before, fields_on};
 ghost use Rattle.calendar.specs.helpers.Days.{floor_day};
 
-#[derive(Drop)]
+#[derive(Clone, Copy)]
 pub struct Fields {
     pub year: u32,
     pub month: u32,
@@ -16,14 +17,14 @@ pub struct Fields {
 }
 
 // The instant of a date and a time of day, with its day of the week, counted from 0, which is Monday.
-#[derive(Drop)]
+#[derive(Clone, Copy)]
 pub enum Located {
     At { seconds: i64, weekday: u32 },
     Nowhere,
 }
 
 // The date and the time of day of an instant, with its day of the week.
-#[derive(Drop)]
+#[derive(Clone, Copy)]
 pub enum Told {
     On { fields: Fields, weekday: u32 },
     Outside,

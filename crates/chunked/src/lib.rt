@@ -1,4 +1,5 @@
 // Reads chunked bodies in two passes over the input: the first decides, the second copies the data of a body that is whole.
+#![tactic(auto)]
 ghost use Rattle.std.specs.Prelude.{◌≡◌, ℕ, ◌+◌, ◌-◌, ◌*◌, ◌<◌, ◌≤◌, true, List, [], ◌∷◌, length};
 ghost use Rattle.octets.specs.Bytes.{hex?, hex_value};
 ghost use Rattle.framing.specs.declared.LinePos.TheVariants.{First};
@@ -20,7 +21,7 @@ use octets::{
 };
 
 // Whole: what is told of the body. More: the input may begin a body.
-#[derive(Drop)]
+#[derive(Clone, Copy)]
 pub enum Answer {
     Whole(Whole),
     More,
@@ -29,7 +30,7 @@ pub enum Answer {
 
 // What reading ends with: a whole body of so many bytes, with the length of its trailer; or the answer. It is smaller than an answer,
 // because every chunk line is read through it (0.9 of the time at chunks of random length).
-#[derive(Drop)]
+#[derive(Clone, Copy)]
 enum Ending {
     Whole { taken: usize, trailer: usize },
     More,
@@ -37,14 +38,14 @@ enum Ending {
 }
 
 // What a chunk line comes to: the size and the place of the data behind it, or the end of reading.
-#[derive(Drop)]
+#[derive(Clone, Copy)]
 enum Found {
     Data { size: usize, start: usize },
     Over(Ending),
 }
 
 // A chunk line that was read: its place, its bytes with CR LF, and its size. No bytes: none was read.
-#[derive(Drop)]
+#[derive(Clone, Copy)]
 struct ChunkLine {
     at: usize,
     length: usize,
@@ -58,7 +59,7 @@ const NO_LINE: ChunkLine = ChunkLine {
 };
 
 // What stands behind the digits of a chunk line that was read: its place, and its bytes with CR LF. No bytes: nothing is known.
-#[derive(Drop)]
+#[derive(Clone, Copy)]
 struct Tail {
     at: usize,
     length: usize,
@@ -68,7 +69,7 @@ const NO_TAIL: Tail = Tail { at: 0, length: 0 };
 
 // How far the first pass has come: the place of the next chunk line, the bytes of data before it, and the line of the last chunk, if the
 // next is to be compared with it.
-#[derive(Drop)]
+#[derive(Clone, Copy)]
 struct Run {
     at: usize,
     total: usize,
@@ -83,7 +84,7 @@ const START: Run = Run {
 
 // What the first pass finds: the answer, and the line of the last chunk, if it is known. In a body of one chunk it is the first line too:
 // the second pass then need not read it again (0.8 of the time at one chunk of 1,024 bytes).
-#[derive(Drop)]
+#[derive(Clone, Copy)]
 struct Decided {
     answer: Answer,
     last: ChunkLine,

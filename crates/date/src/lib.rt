@@ -1,4 +1,5 @@
 // HTTP dates: RFC 2616 3.3.1, and 19.3 for years of two digits.
+#![tactic(auto)]
 ghost use Rattle.std.specs.Prelude.{◌≡◌, ◌+◌, ◌-◌, ◌≤◌, ◌<◌, length, drop};
 ghost use Rattle.grammar.specs.helpers.Judge.{header};
 ghost use Rattle.grammar.specs.helpers.Scans.{slice};
@@ -15,27 +16,27 @@ use calendar::{Fields, Located};
 use octets::{MALFORMED, NO_SUCH_DATE, OUT_OF_RANGE, Refusal, VALUE_TOO_LONG, WRONG_DAY_NAME};
 
 // A date and a time of day, and the seconds since 1970-01-01 00:00:00.
-#[derive(Drop)]
+#[derive(Clone, Copy)]
 pub struct Date {
     pub fields: Fields,
     pub seconds: i64,
 }
 
-#[derive(Drop)]
+#[derive(Clone, Copy)]
 pub enum Reading {
     Read(Date),
     Refused(Refusal),
 }
 
 // A month and what follows it to the end, or the place where that stops.
-#[derive(Drop)]
+#[derive(Clone, Copy)]
 enum Tail {
     Month(u32),
     Stops(usize),
 }
 
 // Where the parts of a form stand: the month, the year and whether it has two digits, the day, the time.
-#[derive(Drop)]
+#[derive(Clone, Copy)]
 struct Places {
     month: usize,
     year: usize,

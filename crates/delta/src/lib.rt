@@ -1,4 +1,5 @@
 // Delta-seconds: RFC 2616 3.3.2.
+#![tactic(auto)]
 ghost use Rattle.std.specs.Prelude.{◌≡◌};
 ghost use Rattle.grammar.specs.helpers.Judge.{header};
 ghost use Rattle.delta.specs.Grammar.{rules};
@@ -13,14 +14,14 @@ const SECONDS_LIMIT: u64 = 2147483647;
 
 const SECONDS_CAP: u32 = 2147483648;
 
-#[derive(Drop)]
+#[derive(Clone, Copy)]
 pub struct Seconds {
     pub value: u32,
     // The number is above the largest, and `value` stands for it.
     pub capped: bool,
 }
 
-#[derive(Drop)]
+#[derive(Clone, Copy)]
 pub enum Reading {
     Read(Seconds),
     Refused(Refusal),

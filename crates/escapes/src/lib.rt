@@ -1,4 +1,5 @@
 // Paths and queries, resolved: each escape that is not needed is its character. RFC 2616 3.2.3.
+#![tactic(auto)]
 ghost use Rattle.std.specs.Prelude.{◌≡◌, ◌≤◌, ◌<◌, leb, length};
 ghost use Rattle.octets.specs.Same.{same?};
 ghost use Rattle.numerals.specs.Numeral.{put};
@@ -12,7 +13,7 @@ use octets::Class;
 const UNRESERVED: Class = [0x3ff678200000000, 0x47fffffe87fffffe, 0, 0];
 
 // A byte of a resolved text, and the place behind what it stands for.
-#[derive(Drop)]
+#[derive(Clone, Copy)]
 struct Unit {
     byte: u8,
     next: usize,

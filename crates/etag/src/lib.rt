@@ -1,4 +1,5 @@
 // Entity tags read: RFC 2616 3.11.
+#![tactic(auto)]
 ghost use Rattle.std.specs.Prelude.{◌≡◌};
 ghost use Rattle.grammar.specs.helpers.Judge.{header};
 ghost use Rattle.scans.specs.helpers.Words.{agreeing};
@@ -12,14 +13,14 @@ use octets::Refusal;
 const MARK_LEN: usize = 2;
 
 // Whether a tag is weak, and the start and length of what stands between its quotes.
-#[derive(Drop)]
+#[derive(Clone, Copy)]
 pub struct Tag {
     pub weak: bool,
     pub start: usize,
     pub length: usize,
 }
 
-#[derive(Drop)]
+#[derive(Clone, Copy)]
 pub enum Reading {
     Read(Tag),
     Refused(Refusal),

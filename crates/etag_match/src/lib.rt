@@ -1,4 +1,5 @@
 // Entity tags matched: RFC 2616 13.3.3.
+#![tactic(auto)]
 ghost use Rattle.std.specs.Prelude.{◌≡◌};
 ghost use Rattle.octets.specs.Comparing.{comparison};
 ghost use Rattle.etag_match.specs.Matching.{weakly, strongly, matches, matching, weak_matching, strong_matching};

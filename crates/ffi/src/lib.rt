@@ -8,6 +8,7 @@
 //
 // In each struct `number` is 0 where there is an answer, otherwise one of the refusal numbers; a field that has no meaning then is 0.
 // Places count from 0.
+#![tactic(auto)]
 ghost use Rattle.std.specs.Prelude.{◌≡◌};
 ghost use Rattle.grammar.specs.Comparing.{outcome, refused_at};
 ghost use Rattle.octets.specs.Comparing.{comparison};
@@ -22,7 +23,7 @@ use octets::{Refusal, Written};
 
 // Whether two inputs are equal, or match.
 #[repr(C)]
-#[derive(Drop)]
+#[derive(Clone, Copy)]
 pub struct QzSame {
     pub number: u8,
     pub place: usize,
@@ -33,7 +34,7 @@ pub struct QzSame {
 
 // What a writer did.
 #[repr(C)]
-#[derive(Drop)]
+#[derive(Clone, Copy)]
 pub struct QzWritten {
     pub number: u8,
     pub place: usize,
@@ -50,7 +51,7 @@ pub const REFUSED: u8 = 2;
 
 // What the reader of chunked bodies answers.
 #[repr(C)]
-#[derive(Drop)]
+#[derive(Clone, Copy)]
 pub struct QzBody {
     // QZ_WHOLE, QZ_MORE or QZ_REFUSED
     pub state: u8,

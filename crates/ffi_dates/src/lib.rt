@@ -1,4 +1,5 @@
 // Dates for C and Rust. Nothing is decided here.
+#![tactic(auto)]
 ghost use Rattle.std.specs.Prelude.{◌≡◌, length};
 ghost use Rattle.date.specs.Reading.{reading};
 ghost use Rattle.date_writer.specs.Writing.{date_writing, date_output};
@@ -9,7 +10,7 @@ use ffi::QzWritten;
 
 // A date that was read.
 #[repr(C)]
-#[derive(Drop)]
+#[derive(Clone, Copy)]
 pub struct QzDate {
     pub number: u8,
     pub place: usize,

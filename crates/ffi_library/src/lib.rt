@@ -1,4 +1,5 @@
 // The version of the library for C and Rust.
+#![tactic(auto)]
 ghost use Rattle.std.specs.Prelude.{◌≡◌};
 ghost use Rattle.ffi_library.specs.Fields.{library_version};
 
@@ -11,7 +12,7 @@ pub const VERSION_PATCH: u32 = 0;
 
 // The version of the library.
 #[repr(C)]
-#[derive(Drop)]
+#[derive(Clone, Copy)]
 pub struct QzLibraryVersion {
     pub major: u32,
     pub minor: u32,

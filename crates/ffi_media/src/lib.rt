@@ -1,4 +1,5 @@
 // Media types for C and Rust. Nothing is decided here.
+#![tactic(auto)]
 ghost use Rattle.std.specs.Prelude.{◌≡◌, map};
 ghost use Rattle.grammar.specs.helpers.Judge.{header};
 ghost use Rattle.media.specs.Grammar.{rules as media-types};
@@ -8,7 +9,7 @@ use media::{Outcome, Parameter};
 
 // An attribute, and its value without its quotes; pairs stay as sent.
 #[repr(C)]
-#[derive(Drop)]
+#[derive(Clone, Copy)]
 pub struct QzParameter {
     pub start: usize,
     pub length: usize,
@@ -19,7 +20,7 @@ pub struct QzParameter {
 
 // A media type that was read.
 #[repr(C)]
-#[derive(Drop)]
+#[derive(Clone, Copy)]
 pub struct QzMedia {
     pub number: u8,
     pub place: usize,

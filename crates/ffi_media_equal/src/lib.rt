@@ -1,4 +1,5 @@
 // Media types compared, and their charset, for C and Rust. Nothing is decided here.
+#![tactic(auto)]
 ghost use Rattle.std.specs.Prelude.{◌≡◌};
 ghost use Rattle.grammar.specs.helpers.Judge.{header};
 ghost use Rattle.media_charset.specs.Charset.{effective_charsets, charsets_assuming_iso_8859_1};
@@ -18,7 +19,7 @@ pub const STATED_CHARSET: u8 = 1;
 
 // The charset of a media type.
 #[repr(C)]
-#[derive(Drop)]
+#[derive(Clone, Copy)]
 pub struct QzCharset {
     pub number: u8,
     pub place: usize,

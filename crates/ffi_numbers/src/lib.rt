@@ -1,4 +1,5 @@
 // Delta-seconds and qvalues for C and Rust. Nothing is decided here.
+#![tactic(auto)]
 ghost use Rattle.std.specs.Prelude.{◌≡◌, length};
 ghost use Rattle.grammar.specs.helpers.Judge.{header};
 ghost use Rattle.delta.specs.Grammar.{rules as deltas};
@@ -11,7 +12,7 @@ use ffi::QzWritten;
 
 // Delta-seconds that were read.
 #[repr(C)]
-#[derive(Drop)]
+#[derive(Clone, Copy)]
 pub struct QzSeconds {
     pub number: u8,
     pub place: usize,
@@ -23,7 +24,7 @@ pub struct QzSeconds {
 
 // A qvalue that was read, in thousandths.
 #[repr(C)]
-#[derive(Drop)]
+#[derive(Clone, Copy)]
 pub struct QzQvalue {
     pub number: u8,
     pub place: usize,

@@ -1,4 +1,5 @@
 // Chunked bodies in pieces, for C and Rust. Nothing is decided here.
+#![tactic(auto)]
 ghost use Rattle.std.specs.Prelude.{◌≡◌, length};
 ghost use Rattle.pieces.specs.Reading.{begun, state_after, taken_by, answered, output_after};
 ghost use Rattle.ffi_pieces.specs.Fields.{pieces_fields, pieces_of, handed, fed_fields};
@@ -10,7 +11,7 @@ use position_numbers::Numbers;
 
 // What the reader in pieces keeps between calls: copy it freely. A field is not for callers to change. It holds no byte of the body.
 #[repr(C)]
-#[derive(Drop)]
+#[derive(Clone, Copy)]
 pub struct QzPieces {
     pub position: u8,
     pub part: u8,
@@ -25,7 +26,7 @@ pub struct QzPieces {
 
 // What a call of qz_pieces_feed gives.
 #[repr(C)]
-#[derive(Drop)]
+#[derive(Clone, Copy)]
 pub struct QzFed {
     // for the next call
     pub pieces: QzPieces,

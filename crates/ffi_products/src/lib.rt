@@ -1,4 +1,5 @@
 // Products and comments for C and Rust. Nothing is decided here.
+#![tactic(auto)]
 ghost use Rattle.std.specs.Prelude.{◌≡◌};
 ghost use Rattle.grammar.specs.helpers.Judge.{header};
 ghost use Rattle.products.specs.Grammar.{rules as product-lists};
@@ -6,7 +7,7 @@ ghost use Rattle.ffi_products.specs.Fields.{products_fields};
 
 // Products and comments that were read.
 #[repr(C)]
-#[derive(Drop)]
+#[derive(Clone, Copy)]
 pub struct QzProducts {
     pub number: u8,
     pub place: usize,

@@ -1,4 +1,5 @@
 // Byte ranges and Content-Range for C and Rust. Nothing is decided here.
+#![tactic(auto)]
 ghost use Rattle.std.specs.Prelude.{◌≡◌, map, length};
 ghost use Rattle.ranges.specs.Reading.{reading};
 ghost use Rattle.content_range_writer.specs.Writing.{content_range_writing, content_range_output};
@@ -10,7 +11,7 @@ use ranges::{Outcome, Range};
 
 // A byte range: the positions of its first and its last byte, counted from 0.
 #[repr(C)]
-#[derive(Drop)]
+#[derive(Clone, Copy)]
 pub struct QzRange {
     pub first: u64,
     pub last: u64,
@@ -18,7 +19,7 @@ pub struct QzRange {
 
 // Byte ranges that were read, resolved against the length of an entity.
 #[repr(C)]
-#[derive(Drop)]
+#[derive(Clone, Copy)]
 pub struct QzRanges {
     pub number: u8,
     pub place: usize,

@@ -1,4 +1,5 @@
 // Language tags and entity tags for C and Rust. Nothing is decided here.
+#![tactic(auto)]
 ghost use Rattle.std.specs.Prelude.{◌≡◌};
 ghost use Rattle.grammar.specs.helpers.Judge.{header};
 ghost use Rattle.language.specs.Grammar.{rules as languages};
@@ -12,7 +13,7 @@ use ffi::QzSame;
 
 // A language tag that was read.
 #[repr(C)]
-#[derive(Drop)]
+#[derive(Clone, Copy)]
 pub struct QzLanguage {
     pub number: u8,
     pub place: usize,
@@ -23,7 +24,7 @@ pub struct QzLanguage {
 
 // An entity tag that was read.
 #[repr(C)]
-#[derive(Drop)]
+#[derive(Clone, Copy)]
 pub struct QzTag {
     pub number: u8,
     pub place: usize,

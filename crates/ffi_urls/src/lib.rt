@@ -1,4 +1,5 @@
 // URLs for C and Rust. Nothing is decided here.
+#![tactic(auto)]
 ghost use Rattle.std.specs.Prelude.{◌≡◌, length};
 ghost use Rattle.grammar.specs.helpers.Judge.{header};
 ghost use Rattle.url.specs.Grammar.{rules as urls};
@@ -12,7 +13,7 @@ use url::Place;
 
 // Where a part stands in the input.
 #[repr(C)]
-#[derive(Drop)]
+#[derive(Clone, Copy)]
 pub struct QzSpan {
     pub start: usize,
     pub length: usize,
@@ -20,7 +21,7 @@ pub struct QzSpan {
 
 // The same of a part that may be absent. A part that is present may be empty.
 #[repr(C)]
-#[derive(Drop)]
+#[derive(Clone, Copy)]
 pub struct QzPart {
     pub present: bool,
     pub start: usize,
@@ -29,7 +30,7 @@ pub struct QzPart {
 
 // A URL that was read.
 #[repr(C)]
-#[derive(Drop)]
+#[derive(Clone, Copy)]
 pub struct QzUrl {
     pub number: u8,
     pub place: usize,

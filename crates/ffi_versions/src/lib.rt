@@ -1,4 +1,5 @@
 // Versions for C and Rust. Nothing is decided here.
+#![tactic(auto)]
 ghost use Rattle.std.specs.Prelude.{◌≡◌, length};
 ghost use Rattle.grammar.specs.helpers.Judge.{header};
 ghost use Rattle.grammar.specs.Comparing.{compare as comparing};
@@ -21,7 +22,7 @@ pub const GREATER: u8 = 2;
 
 // A version that was read.
 #[repr(C)]
-#[derive(Drop)]
+#[derive(Clone, Copy)]
 pub struct QzVersion {
     pub number: u8,
     pub place: usize,
@@ -31,7 +32,7 @@ pub struct QzVersion {
 
 // How two versions compare.
 #[repr(C)]
-#[derive(Drop)]
+#[derive(Clone, Copy)]
 pub struct QzOrder {
     pub number: u8,
     pub place: usize,

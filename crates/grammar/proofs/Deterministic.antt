@@ -135,6 +135,7 @@ In [] b = ⊥
 In (c ∷ cs) b = T (c.has b) ⊎ In cs b
 
 in_left : (cs ds : List Class) (b : ℕ) → In cs b → In (cs ++ ds) b
+in_left [] ds b x = elim x [ ]
 in_left (c ∷ cs) ds b (inl x) = inl x
 in_left (c ∷ cs) ds b (inr x) = inr (in_left cs ds b x)
 
@@ -165,10 +166,12 @@ apart-bytes : (c d : Class) (b : ℕ) → T (disjoint c d 256) → T (c.has b) �
 apart-bytes c d b p x y = disjoint-shows c d 256 b p (ltb→lt b 256 (c.below b x)) x y
 
 apart_one-shows : (c : Class) (ds : List Class) (b : ℕ) → T (apart_one c ds) → T (c.has b) → In ds b → ⊥
+apart_one-shows c [] b p x y = elim y [ ]
 apart_one-shows c (d ∷ ds) b p x (inl y) = apart-bytes c d b (T-left (disjoint c d 256) (apart_one c ds) p) x y
 apart_one-shows c (d ∷ ds) b p x (inr y) = apart_one-shows c ds b (T-right (disjoint c d 256) (apart_one c ds) p) x y
 
 apart-shows : (cs ds : List Class) (b : ℕ) → T (apart cs ds) → In cs b → In ds b → ⊥
+apart-shows [] ds b p x y = elim x [ ]
 apart-shows (c ∷ cs) ds b p (inl x) y = apart_one-shows c ds b (T-left (apart_one c ds) (apart cs ds) p) x y
 apart-shows (c ∷ cs) ds b p (inr x) y = apart-shows cs ds b (T-right (apart_one c ds) (apart cs ds) p) x y
 

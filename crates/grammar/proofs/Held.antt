@@ -1,5 +1,5 @@
 -- The parts that have begun, `held`, are those of every text that goes on from here.
-use Prim.Native.Nat.{ℕ, zero, suc, ◌+◌, ◌-◌, ◌≤◌, ◌<◌}
+use Prim.Native.Nat.{ℕ, zero, suc, ◌-◌, ◌≤◌, ◌<◌}
 use native.Mathlib.Omega.{arith}
 use borrow.Author.Tests.{lt-ltb, le-ltb}
 use mathlib.Core.Path.{◌≡◌, refl, sym, ap, ◌∙◌}
@@ -35,14 +35,14 @@ module _ {L : Type 0} where
       (before_append n ps qs)
 
   -- a text of a fresh grammar has no part that begins before it
-  fresh_many : (i j : ℕ) (P : ℕ → List ℕ → List (Part L) → Type 0)
+  fresh_many : (i : ℕ) (P : ℕ → List ℕ → List (Part L) → Type 0)
       → ((k : ℕ) (t : List ℕ) (ps : List (Part L)) → i ≤ k → P k t ps → parts_before i ps ≡ [])
-      → i ≤ j → (l : List ℕ) (ps : List (Part L)) → Many P j l ps → parts_before i ps ≡ []
-  fresh_many i j P f h l ps none = refl
-  fresh_many i j P f h l ps (more b t u qs rs m n) =
+      → (j : ℕ) → i ≤ j → (l : List ℕ) (ps : List (Part L)) → Many P j l ps → parts_before i ps ≡ []
+  fresh_many i P f j h l ps none = refl
+  fresh_many i P f j h l ps (more b t u qs rs m n) =
       before_append i qs rs
       ∙ ap (λ (k : List (Part L)). k ++ parts_before i rs) (f j (b ∷ t) qs h m)
-      ∙ fresh_many i (past (suc j) t) P f (omega (arith, past_le (suc j) t)) u rs n
+      ∙ fresh_many i P f (past (suc j) t) (omega (arith, past_le (suc j) t)) u rs n
 
   fresh-nest : (o c : Class) (l m : L) (i : ℕ) (P : ℕ → List ℕ → List (Part L) → Type 0)
       → ((k : ℕ) (t : List ℕ) (ps : List (Part L)) → i ≤ k → P k t ps → parts_before i ps ≡ [])
@@ -68,7 +68,7 @@ module _ {L : Type 0} where
       ∙ fresh-before k i (past j m.0) m.1 m.3 (T-right (fresh? g) (fresh? k) f) (omega (arith, past_le j m.0)) m.7
   fresh-before (g ∣ k) i j t ps f h (inl m) = fresh-before g i j t ps (T-left (fresh? g) (fresh? k) f) h m
   fresh-before (g ∣ k) i j t ps f h (inr m) = fresh-before k i j t ps (T-right (fresh? g) (fresh? k) f) h m
-  fresh-before (star g) i j t ps f h m = fresh_many i j (Parses g) (λ k u qs l n. fresh-before g i k u qs f l n) h t ps m
+  fresh-before (star g) i j t ps f h m = fresh_many i (Parses g) (λ k u qs l n. fresh-before g i k u qs f l n) j h t ps m
   fresh-before (part l g) i j t ps f h m = rw (m.1, le-ltb j i h) (fresh-before g i j t m.0 f h m.2)
   fresh-before (rest c g) i j t ps f h m = absurd f
   fresh-before (nest o c l m g r n) i j t ps f h k =

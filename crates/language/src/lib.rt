@@ -1,4 +1,5 @@
 // Language tags: RFC 2616 3.10.
+#![tactic(auto)]
 ghost use Rattle.std.specs.Prelude.{◌≡◌};
 ghost use Rattle.grammar.specs.helpers.Judge.{header};
 ghost use Rattle.octets.specs.Comparing.{comparison};
@@ -12,13 +13,13 @@ use octets::{Compared, Refusal};
 const PART_LIMIT: usize = 8;
 
 // How many parts a tag has, and how many letters the first of them has.
-#[derive(Drop)]
+#[derive(Clone, Copy)]
 pub struct Tag {
     pub parts: usize,
     pub primary_length: usize,
 }
 
-#[derive(Drop)]
+#[derive(Clone, Copy)]
 pub enum Reading {
     Read(Tag),
     Refused(Refusal),

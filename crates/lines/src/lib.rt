@@ -1,4 +1,5 @@
 // Lines of hexadecimal, for the programs: a line gathered from pieces of an input, and its digits as bytes.
+#![tactic(auto)]
 ghost use Rattle.std.specs.Prelude.{◌≡◌, true, ◌+◌, ◌*◌, length};
 ghost use Rattle.octets.specs.Bytes.{hex?, hex_value};
 ghost use Rattle.numerals.specs.Numeral.{every};
@@ -11,7 +12,7 @@ pub const DIGIT_LIMIT: usize = 32768;
 
 // What a piece of the input adds to a line: how many of its bytes belong to the line, the LF included; how many bytes of the line are
 // held; and whether the line ended.
-#[derive(Drop)]
+#[derive(Clone, Copy)]
 pub struct Gathered {
     pub taken: usize,
     pub held: usize,
@@ -19,7 +20,7 @@ pub struct Gathered {
 }
 
 // The bytes that a line spells, counted; or a bad line.
-#[derive(Drop)]
+#[derive(Clone, Copy)]
 pub enum Hex {
     Bytes(usize),
     Bad,

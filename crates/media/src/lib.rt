@@ -1,4 +1,5 @@
 // Media types: RFC 2616 3.7, with the parameters of 3.6.
+#![tactic(auto)]
 ghost use Rattle.std.specs.Prelude.{◌≡◌, [], ◌≤◌, ◌<◌, ◌+◌, length, take};
 ghost use Rattle.grammar.specs.helpers.Scans.{slice};
 ghost use Rattle.octets.specs.Case.{alike};
@@ -14,7 +15,7 @@ use octets::Refusal;
 pub const PARAMETER_LIMIT: usize = 16;
 
 // Start and length of an attribute and of its value, a quoted value's without its quotes.
-#[derive(Drop)]
+#[derive(Clone, Copy)]
 pub struct Parameter {
     pub start: usize,
     pub length: usize,
@@ -27,7 +28,7 @@ pub struct Parameter {
 pub type Table = [Parameter; PARAMETER_LIMIT];
 
 // Start and length of type and subtype, and how many parameters there are.
-#[derive(Drop)]
+#[derive(Clone, Copy)]
 pub struct MediaType {
     pub type_start: usize,
     pub type_length: usize,
@@ -36,21 +37,21 @@ pub struct MediaType {
     pub count: usize,
 }
 
-#[derive(Drop)]
+#[derive(Clone, Copy)]
 pub enum Outcome {
     Read(MediaType),
     Refused(Refusal),
 }
 
 // The outcome, and beside it the table of parameters.
-#[derive(Drop)]
+#[derive(Clone, Copy)]
 pub struct Reading {
     pub outcome: Outcome,
     pub parameters: Table,
 }
 
 // A parameter that was read and the place behind it, or why reading stopped.
-#[derive(Drop)]
+#[derive(Clone, Copy)]
 enum Step {
     Passed { parameter: Parameter, end: usize },
     Stopped(Refusal),

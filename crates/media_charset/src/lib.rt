@@ -1,4 +1,5 @@
 // The charset of a media type: the effective one, and with the default of RFC 2616 3.7.1.
+#![tactic(auto)]
 ghost use Rattle.std.specs.Prelude.{◌≡◌, ◌≤◌, ◌+◌, length};
 ghost use Rattle.grammar.specs.helpers.Judge.{header};
 ghost use Rattle.grammar.specs.Reading as G;
@@ -10,7 +11,7 @@ use media::Outcome;
 use octets::Refusal;
 
 // Where the parameter's value stands; ISO-8859-1 for `text` without it, where that is assumed; or none.
-#[derive(Drop)]
+#[derive(Clone, Copy)]
 pub enum Charset {
     Stated {
         start: usize,

@@ -1,5 +1,5 @@
 -- What the classes say of a byte.
-use Rattle.std.proofs.Common.{◌≡◌, ℕ, ◌-◌, ◌<◌, ◌≤◌, Bool, true, false, cond, ◌&&◌, eqb, leb, sym, refl, ap, ◌∙◌, true≢false, arith, ne_eqb, leb-true}
+use Rattle.std.proofs.Common.{◌≡◌, ℕ, ◌<◌, ◌≤◌, Bool, true, false, cond, ◌&&◌, eqb, leb, sym, refl, ap, ◌∙◌, true≢false, arith, ne_eqb, leb-true}
 use Rattle.octets.specs.Bytes.{digit?, hex?, hex_value}
 use Rattle.octets.proofs.Spans.{by_range}
 

@@ -1,4 +1,6 @@
 // The basic rules of RFC 2616 2.2 as document 01 states them: classes of bytes, letter case.
+#![tactic(auto)]
+
 ghost use Rattle.std.specs.Prelude.{◌≡◌, ◌/◌, ◌<◌, ◌≤◌, min, true, false, length, if◌then◌else◌, slice_index};
 ghost use Rattle.grammar.specs.Grammar.{lower};
 ghost use Rattle.octets.specs.Bytes.{digit?, token?, content?, text?, escaped?, hex?, hex_value};
@@ -59,14 +61,14 @@ pub const FRAMED_TOO_LONG: u8 = 14;
 pub const FORBIDDEN_FIELD: u8 = 15;
 
 // Why an input was refused: document 01's number, and the place it names, counted from 0.
-#[derive(Drop)]
+#[derive(Clone, Copy)]
 pub struct Refusal {
     pub number: u8,
     pub place: usize,
 }
 
 // What a writer answers: the length of what it wrote at the front of the output, or why it wrote nothing.
-#[derive(Drop)]
+#[derive(Clone, Copy)]
 pub enum Written {
     Length(usize),
     Refused(Refusal),
@@ -80,7 +82,7 @@ pub fn unwritten(number: u8) -> Written
 }
 
 // Whether two values given as bytes are the same in the sense of their comparison, or which of them was refused.
-#[derive(Drop)]
+#[derive(Clone, Copy)]
 pub enum Compared {
     Same,
     Different,

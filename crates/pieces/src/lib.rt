@@ -1,4 +1,5 @@
 // Reads chunked bodies in pieces, as they arrive: a state by value goes from call to call, and data is written as it comes.
+#![tactic(auto)]
 ghost use Rattle.std.specs.Prelude.{◌≡◌, true, false, ◌+◌, ◌-◌, ◌<◌, ◌≤◌, length, length as length_of};
 ghost use Rattle.text.specs.Placing.{placed};
 ghost use Rattle.framing.specs.declared.State.TheVariants.{Line, Data};
@@ -22,7 +23,7 @@ use transition::Step;
 pub const FRAMED_LIMIT: usize = 1099511627776;
 
 // What the reader keeps between calls. It holds no byte of the body.
-#[derive(Drop)]
+#[derive(Clone, Copy)]
 pub struct Pieces {
     // where the body stands behind the bytes taken
     pub position: State,
@@ -35,7 +36,7 @@ pub struct Pieces {
 }
 
 // What a call gives: the next state, how many bytes of the piece it took, and the answer.
-#[derive(Drop)]
+#[derive(Clone, Copy)]
 pub struct Fed {
     pub state: Pieces,
     pub taken: usize,

@@ -1,5 +1,6 @@
 // Passes over chunks whose lines are digits alone, and copies their data, as numbers alone: half the time of going from state to state, at
 // chunks of 16.
+#![tactic(auto)]
 ghost use Rattle.std.specs.Prelude.{◌≡◌, ◌+◌, ◌≤◌, length};
 ghost use Rattle.text.specs.Placing.{placed};
 ghost use Rattle.size_lines.specs.helpers.Lines.{PlainSize};
@@ -10,7 +11,7 @@ use size_lines::{Plain, Short};
 
 // How many bytes were passed over, and the data: with that of the chunk whose line is the last of them, if one is. Its size is above zero.
 // Numbers, not a state: that takes 0.95 of the time at chunks of 16.
-#[derive(Drop)]
+#[derive(Clone, Copy)]
 pub struct Run {
     pub taken: usize,
     pub total: usize,
@@ -18,7 +19,7 @@ pub struct Run {
 }
 
 // A chunk with a line of digits alone: it lies whole in the bytes, or only its line does. Or any other.
-#[derive(Drop)]
+#[derive(Clone, Copy)]
 enum Chunk {
     Whole { value: usize, length: usize },
     Begun { value: usize, length: usize },

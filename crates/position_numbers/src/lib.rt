@@ -1,4 +1,5 @@
 // Where a body stands as numbers, and back: for whoever keeps a position outside.
+#![tactic(auto)]
 ghost use Rattle.std.specs.Prelude.{◌≡◌};
 ghost use Rattle.position_numbers.specs.Numbers.{ext_number, trail_number, name_of, line_numbers, trail_numbers};
 ghost use Rattle.position_numbers.specs.Numbers.{as_numbers, numbers_of};
@@ -9,7 +10,7 @@ use framing::{ExtPos, LinePos, State, TrailPos};
 // `position` is the number of the case, and `part` that of the position in a line or a trailer. `size` is what the digits or the line gave,
 // or what is left of the chunk behind the next byte; `total` is the data before the line, or that of all chunks. `name` is what is
 // remembered of a name in the trailer; `length` is that of the line or the trailer. What a case does not use is 0.
-#[derive(Drop)]
+#[derive(Clone, Copy)]
 pub struct Numbers {
     pub position: u8,
     pub part: u8,

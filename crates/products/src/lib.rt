@@ -1,4 +1,5 @@
 // Product tokens with comments: RFC 2616 3.8 and 2.2.
+#![tactic(auto)]
 ghost use Rattle.std.specs.Prelude.{◌≡◌, ◌≤◌, ◌<◌, max, length};
 ghost use Rattle.grammar.specs.helpers.Judge.{header};
 ghost use Rattle.products.specs.Grammar.{rules};
@@ -19,28 +20,28 @@ const COMMENT_TEXT: octets::Class = [
 ];
 
 // How many products and outermost comments there are, and the deepest level of comments.
-#[derive(Drop)]
+#[derive(Clone, Copy)]
 pub struct Products {
     pub products: usize,
     pub comments: usize,
     pub deepest: usize,
 }
 
-#[derive(Drop)]
+#[derive(Clone, Copy)]
 pub enum Reading {
     Read(Products),
     Refused(Refusal),
 }
 
 // An item: the place behind it, and what was found through it.
-#[derive(Drop)]
+#[derive(Clone, Copy)]
 enum Item {
     Read { end: usize, found: Products },
     Refused(Refusal),
 }
 
 // A comment, or what one holds: the place where it ends, and how many levels deep it is.
-#[derive(Drop)]
+#[derive(Clone, Copy)]
 enum Comment {
     Closed { end: usize, levels: usize },
     Refused(Refusal),

@@ -1,4 +1,5 @@
 // Quality values read: RFC 2616 3.9.
+#![tactic(auto)]
 ghost use Rattle.std.specs.Prelude.{◌≡◌, true, ◌≤◌};
 ghost use Rattle.grammar.specs.helpers.Judge.{header};
 ghost use Rattle.octets.specs.Bytes.{digit?};
@@ -14,7 +15,7 @@ const LONGEST: usize = 5;
 const ZERO: Class = [0x1000000000000, 0, 0, 0];
 
 // A qvalue in thousandths, 0 to 1000.
-#[derive(Drop)]
+#[derive(Clone, Copy)]
 pub enum Reading {
     Read(u16),
     Refused(Refusal),

@@ -1,4 +1,5 @@
 // Byte ranges: RFC 2616 14.35.1, read and resolved against the length of an entity.
+#![tactic(auto)]
 ghost use Rattle.std.specs.Prelude.{◌≡◌};
 ghost use Rattle.ranges.specs.Meaning.{begin, end};
 ghost use Rattle.ranges.specs.Reading.{Answered, refused_reading};
@@ -17,7 +18,7 @@ pub const ELEMENT_LIMIT: usize = 16;
 const UNIT_LEN: usize = 6;
 
 // The positions of the first and the last byte.
-#[derive(Drop)]
+#[derive(Clone, Copy)]
 pub struct Range {
     pub first: u64,
     pub last: u64,
@@ -26,7 +27,7 @@ pub struct Range {
 // As many entries as there may be ranges; the unused ones are zero.
 pub type Table = [Range; ELEMENT_LIMIT];
 
-#[derive(Drop)]
+#[derive(Clone, Copy)]
 pub enum Outcome {
     // So many ranges, at least one.
     Satisfiable(usize),
@@ -36,14 +37,14 @@ pub enum Outcome {
 }
 
 // The outcome, and beside it the table of ranges.
-#[derive(Drop)]
+#[derive(Clone, Copy)]
 pub struct Reading {
     pub outcome: Outcome,
     pub ranges: Table,
 }
 
 // An element of a set: `first-last`, `first-`, `-size`.
-#[derive(Drop)]
+#[derive(Clone, Copy)]
 enum Element {
     Closed { first: u64, last: u64 },
     Open { first: u64 },
@@ -51,14 +52,14 @@ enum Element {
 }
 
 // An element that was read and the place behind it, or why reading stopped.
-#[derive(Drop)]
+#[derive(Clone, Copy)]
 enum Step {
     Passed { element: Element, end: usize },
     Stopped(Refusal),
 }
 
 // A number, capped, and the place behind its digits; or no digit.
-#[derive(Drop)]
+#[derive(Clone, Copy)]
 enum Number {
     Digits { value: u64, end: usize },
     Missing,

@@ -1,5 +1,6 @@
 // Scans over the bytes of a slice: the run of a class, a word in any letter case, a decimal number under a limit, a quoted string; and the
 // theory of each against the grammars that contain it.
+#![tactic(auto)]
 ghost use Rattle.std.specs.Prelude.{◌≡◌, ℕ, ◌+◌, ◌*◌, ◌<◌, ◌≤◌, Bool, true, false, length, drop, nat_le, slice_index};
 ghost use Rattle.octets.specs.Bytes.{token?, text?, within};
 ghost use Rattle.octets.specs.helpers.Bits.{Bits};
@@ -10,7 +11,7 @@ ghost use Rattle.scans.specs.helpers.Quoted.{quoted_end};
 
 // A run of decimal digits under a limit: the number and the place behind the run; or the digit that passes the limit, for callers that
 // refuse the number there, and the place behind the run, for those that cap it and read on; or no digit.
-#[derive(Drop)]
+#[derive(Clone, Copy)]
 pub enum Decimal {
     Number { value: u64, end: usize },
     Above { place: usize, end: usize },

@@ -1,4 +1,5 @@
 // Chunk lines that are digits alone, at the front of bytes: one or two digits by their word, and any number of them.
+#![tactic(auto)]
 ghost use Rattle.std.specs.Prelude.{◌≡◌, ◌+◌, ◌*◌, ◌/◌, ◌%◌, ◌<◌, ◌≤◌};
 ghost use Rattle.chunked.specs.helpers.Passes.{HasSecond};
 ghost use Rattle.size_lines.specs.helpers.Lines.{InDigits, PlainLine};
@@ -7,7 +8,7 @@ ghost use Rattle.size_lines.specs.helpers.Words.{ShortOf};
 use framing::LINE_LIMIT;
 
 // A line of digits alone: the size that it gives, above zero, and its bytes with CR LF. Or any other.
-#[derive(Drop)]
+#[derive(Clone, Copy)]
 pub enum Plain {
     Size { value: usize, length: usize },
     Other,
@@ -15,7 +16,7 @@ pub enum Plain {
 
 // A line by its first four bytes as one number, where it is one or two digits and CR LF: its bytes with CR LF, and the size that it gives,
 // above zero. No bytes: it is another line.
-#[derive(Drop)]
+#[derive(Clone, Copy)]
 pub struct Short {
     pub word: u32,
     pub length: usize,

@@ -1,4 +1,5 @@
 // What the next byte of a body comes to, from any position: the machine's step as code, for readers that go a byte at a time.
+#![tactic(auto)]
 ghost use Rattle.std.specs.Prelude.{◌≡◌, cond, ◌&&◌, ℕ, suc, ◌+◌, ◌*◌, ◌≤◌, eqb, leb};
 ghost use Rattle.framing.specs.Grammar.{LINE_LIMIT as LINE, TRAILER_LIMIT as TRAILER};
 ghost use Rattle.framing.specs.declared.LinePos.TheVariants.{Size};
@@ -12,7 +13,7 @@ use framing::{ExtPos, LINE_LIMIT, LinePos, State, TRAILER_LIMIT, TrailPos};
 use octets::{BODY_TOO_LARGE, FORBIDDEN_FIELD, LINE_TOO_LONG, MALFORMED, TRAILER_TOO_LONG};
 
 // What a byte comes to: the next position, or the number of its refusal; or no body stands at that position in that room.
-#[derive(Drop)]
+#[derive(Clone, Copy)]
 pub enum Step {
     To(State),
     Refused(u8),

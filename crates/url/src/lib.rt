@@ -1,4 +1,5 @@
 // http URLs read: RFC 2616 3.2.2.
+#![tactic(auto)]
 ghost use Rattle.std.specs.Prelude.{◌≡◌, ℕ, ◌+◌, ◌-◌, ◌<◌, ◌≤◌, Bool, true, length, if◌then◌else◌, slice_index};
 ghost use Rattle.grammar.specs.helpers.Judge.{header};
 ghost use Rattle.octets.specs.Bytes.{within};
@@ -36,20 +37,20 @@ const HEX: Class = [0x3ff000000000000, 0x7e0000007e, 0, 0];
 const BLOCK: usize = 32;
 
 // Where a part stands in the text.
-#[derive(Drop)]
+#[derive(Clone, Copy)]
 pub struct Span {
     pub start: usize,
     pub length: usize,
 }
 
 // A part that may be absent. A part that is there may be empty.
-#[derive(Drop)]
+#[derive(Clone, Copy)]
 pub enum Place {
     Absent,
     At(Span),
 }
 
-#[derive(Drop)]
+#[derive(Clone, Copy)]
 pub struct Url {
     pub host: Span,
     pub port: u16,
@@ -57,21 +58,21 @@ pub struct Url {
     pub query: Place,
 }
 
-#[derive(Drop)]
+#[derive(Clone, Copy)]
 pub enum Reading {
     Read(Url),
     Refused(Refusal),
 }
 
 // A port, and the place behind it; or the digit with which it passes the limit.
-#[derive(Drop)]
+#[derive(Clone, Copy)]
 enum Port {
     Read { port: u16, at: usize },
     Above(usize),
 }
 
 // Where a text with escapes ends, or breaks off inside an escape.
-#[derive(Drop)]
+#[derive(Clone, Copy)]
 enum Ending {
     Ends(usize),
     Breaks(usize),

@@ -1,4 +1,5 @@
 // http URLs compared by what they mean: RFC 2616 3.2.3.
+#![tactic(auto)]
 ghost use Rattle.std.specs.Prelude.{◌≡◌};
 ghost use Rattle.octets.specs.Comparing.{comparison};
 ghost use Rattle.octets.specs.Same.{same?};

@@ -1,4 +1,5 @@
 // http URLs in their normal form: document 02, request (x).
+#![tactic(auto)]
 ghost use Rattle.std.specs.Prelude.{◌≡◌, ◌++◌, min, ◌+◌, ◌≤◌, ◌<◌, length, drop};
 ghost use Rattle.grammar.specs.Reading.{value_limit};
 ghost use Rattle.octets.specs.Writing.{written};

@@ -1,4 +1,5 @@
 // HTTP versions: RFC 2616 3.1.
+#![tactic(auto)]
 ghost use Rattle.std.specs.Prelude.{◌≡◌, length};
 ghost use Rattle.grammar.specs.helpers.Judge.{header};
 ghost use Rattle.version.specs.Grammar.{rules};
@@ -16,19 +17,19 @@ const NUMBER_LIMIT: u64 = 65535;
 // The bytes of the name and its slash.
 const NAME_LEN: usize = 5;
 
-#[derive(Drop)]
+#[derive(Clone, Copy)]
 pub struct Version {
     pub major: u32,
     pub minor: u32,
 }
 
-#[derive(Drop)]
+#[derive(Clone, Copy)]
 pub enum Reading {
     Read(Version),
     Refused(Refusal),
 }
 
-#[derive(Drop)]
+#[derive(Clone, Copy)]
 pub enum Order {
     Less,
     Equal,

@@ -1,4 +1,5 @@
 // HTTP versions given as bytes, compared: RFC 2616 3.1.
+#![tactic(auto)]
 ghost use Rattle.std.specs.Prelude.{◌≡◌};
 ghost use Rattle.grammar.specs.Comparing.{compare as comparing};
 ghost use Rattle.grammar.specs.helpers.Judge.{header};
@@ -10,7 +11,7 @@ use octets::Refusal;
 use version::{Order, Reading, Version};
 
 // How two versions given as bytes compare, or which of them was refused.
-#[derive(Drop)]
+#[derive(Clone, Copy)]
 pub enum Compared {
     Ordered(Order),
     FirstRefused(Refusal),
