@@ -10,7 +10,6 @@ use Rattle.grammar.specs.Refusals.{MALFORMED, LINE_TOO_LONG, TRAILER_TOO_LONG, B
 use Rattle.framing.specs.declared.Whole.{Whole}
 use Rattle.framing.specs.Grammar as G
 use Rattle.framing.specs.Grammar.{crlf, Body, HasTrailer, Broken, limits, chunked}
-use Rattle.framing.specs.Answer as Answer
 use Rattle.framing.specs.Answer.{Answer}
 use Rattle.framing.specs.Demand.{rank, Among, Live, BeginsWhole, Unfinished, Malformed, Over, Decodes, Nothing}
 use Rattle.framing.specs.helpers.Machine.{machine, tell}

@@ -7,7 +7,6 @@ use native.Mathlib.Omega.{arith}
 use lib.Dec.{eqb}
 use borrow.Author.Tests.{eqb-true}
 use Rattle.framing.specs.declared.ExtPos.{ExtPos}
-use Rattle.framing.specs.declared.ExtPos.TheVariants as ExtPos
 use Rattle.framing.specs.Grammar as G
 use Rattle.octets.specs.Bytes.{hex?, token?, text?, escaped?}
 use Rattle.framing.specs.Grammar.{Many, Some, Value, Extension, Extensions}

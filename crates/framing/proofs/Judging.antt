@@ -16,7 +16,7 @@ use Rattle.framing.specs.declared.State.TheVariants.{Line, LineFeed, Data, DataC
 use Rattle.framing.specs.Demand.{Among}
 use Rattle.framing.specs.Grammar as G
 use Rattle.framing.specs.Grammar.{crlf, Body, HasTrailer, Tells, Broken, chunked}
-use Rattle.framing.specs.helpers.Machine.{End, step, emit, live, line_live, done, tell, long_line, long_trailer, past_room, no_room}
+use Rattle.framing.specs.helpers.Machine.{End, step, emit, live, line_live, done, tell, long_line, long_trailer, past_room}
 use Rattle.framing.specs.helpers.Machine.{tests, test_of, broke, start, machine}
 use Rattle.framing.specs.helpers.Scan.{judged_by, first, run, out, Quiet}
 use Rattle.framing.proofs.Cases.{false-true, none-some, by_cond, to-cond, never}

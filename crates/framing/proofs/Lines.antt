@@ -6,7 +6,6 @@ use mathlib.Core.Option.{Option, none, some}
 use Prim.Native.Nat.{ℕ, ◌+◌, ◌*◌}
 use native.Mathlib.Omega.{arith}
 use Rattle.framing.specs.declared.ExtPos.{ExtPos}
-use Rattle.framing.specs.declared.ExtPos.TheVariants as ExtPos
 use Rattle.framing.specs.declared.LinePos.{LinePos}
 use Rattle.framing.specs.declared.LinePos.TheVariants.{First, Size, Ext}
 use Rattle.framing.specs.Grammar as G

@@ -146,6 +146,7 @@ module _ (n : List ℕ) where
   -- exactly where some text begins with the name and its colon
   pub named-agrees : (names : List (List ℕ)) → Colonless names → Named n names → eqb (agreeing (texts names) (n ++ (58 ∷ []))) 0 ≡ false
   unfolding agreeing texts
+  named-agrees [] c x = elim x [ ]
   named-agrees (f ∷ fs) c (G.first e) =
       some-bit (begins (n ++ (58 ∷ [])) (small f ++ (58 ∷ []))) (agreeing (texts fs) (n ++ (58 ∷ []))) (text-is n f c.0 ∙ e)
   named-agrees (f ∷ fs) c (G.later h) =

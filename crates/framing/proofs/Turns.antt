@@ -9,7 +9,6 @@ use borrow.Author.Tests.{eq-eqb, ne_eqb, lt-ltb, le-ltb, le-leb}
 use Rattle.octets.specs.Bytes.{hex?, hex_value}
 use Rattle.framing.specs.Grammar.{LINE_LIMIT, TRAILER_LIMIT, limits}
 use Rattle.framing.specs.declared.ExtPos.{ExtPos}
-use Rattle.framing.specs.declared.ExtPos.TheVariants as ExtPos
 use Rattle.framing.specs.declared.LinePos.{LinePos}
 use Rattle.framing.specs.declared.LinePos.TheVariants.{First, Size, Ext}
 use Rattle.framing.specs.declared.State.{State}

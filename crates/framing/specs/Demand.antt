@@ -2,7 +2,6 @@
 -- of `decode` and `decoded` in specs/Reading.antt, with the grammar and the limits of specs/Grammar.antt.
 use Rattle.std.specs.Prelude.{◌≡◌, cond, List, [], ◌∷◌, ◌++◌, ◌↔◌, ℕ, suc, ◌<◌, ◌≤◌, eqb, length, take}
 use Rattle.grammar.specs.Refusals.{MALFORMED, BODY_TOO_LARGE}
-use Rattle.framing.specs.Answer as Answer
 use Rattle.framing.specs.Answer.{Answer}
 
 -- ## What readers differ in

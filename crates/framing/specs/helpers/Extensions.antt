@@ -4,7 +4,6 @@ use Prim.Native.Char.{code}
 use Rattle.octets.specs.Bytes.{token?, text?, escaped?}
 use Rattle.framing.specs.helpers.Scan.{Part}
 use Rattle.framing.specs.declared.ExtPos.{ExtPos}
-use Rattle.framing.specs.declared.ExtPos.TheVariants as ExtPos
 
 -- the position behind a byte
 abbrev pub ext_step : ExtPos → ℕ → ExtPos

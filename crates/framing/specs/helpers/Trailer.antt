@@ -6,7 +6,6 @@ use Rattle.framing.specs.Grammar.{forbidden}
 use Rattle.framing.specs.helpers.Names.{texts, every, going_on, width, count, staying}
 use Rattle.framing.specs.helpers.Scan.{Part}
 use Rattle.framing.specs.declared.TrailPos.{TrailPos}
-use Rattle.framing.specs.declared.TrailPos.TheVariants as TrailPos
 
 -- ## Lines, whatever their names are
 pub data TrailPlace : Type 0 where
