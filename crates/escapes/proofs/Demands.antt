@@ -6,9 +6,9 @@ use mathlib.Core.Logic.{◌↔◌}
 use mathlib.Core.Bool.{true}
 use mathlib.Core.List.{List, ◌∷◌, ◌++◌}
 use Rattle.grammar.specs.Grammar.{Part, Parses}
-use Rattle.url.specs.Bytes.{PATH, QUERY}
-use Rattle.url.specs.Grammar.{Name, text_of}
-use Rattle.url.proofs.Scan.{path_no_percent, query_no_percent}
+use Rattle.http_url.specs.Bytes.{PATH, QUERY}
+use Rattle.http_url.specs.Grammar.{Name, text_of}
+use Rattle.http_url.proofs.Scan.{path_no_percent, query_no_percent}
 use Rattle.escapes.specs.Resolved.{escaped_byte, unneeded?, resolved}
 use Rattle.escapes.specs.Symbols.{Symbol, Spelled, standing, Agree, NoneUnneeded}
 use Rattle.escapes.proofs.Escapes as E

@@ -8,9 +8,9 @@ use lib.Dec.{T, eqb→eq}
 use Rattle.grammar.specs.Grammar.{Class, Part, byte, ◌∣◌, none, more, Parses, past}
 use Rattle.grammar.proofs.Derivative.{T_true}
 use Rattle.octets.specs.Bytes.{hex?}
-use Rattle.url.specs.Bytes.{unreserved?}
-use Rattle.url.specs.Grammar.{Name, text_of}
-use Rattle.url.specs.Grammar as Url
+use Rattle.http_url.specs.Bytes.{unreserved?}
+use Rattle.http_url.specs.Grammar.{Name, text_of}
+use Rattle.http_url.specs.Grammar as Url
 use Rattle.escapes.specs.Resolved.{escaped_byte, unneeded?, resolved}
 use Rattle.escapes.specs.Symbols.{Symbol, character, escape, Spelled, nothing, a_character, an_escape, stands_for, standing, Agree, both_end, next, NoneUnneeded}
 use Rattle.escapes.proofs.Resolved.{character-first, escape-is, escape_no_percent, last_of}

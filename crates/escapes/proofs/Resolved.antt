@@ -11,7 +11,7 @@ use lib.ListN.{length, get_or, drop, drop_of_length-le, length-drop}
 use lib.Seq.{drop-cons}
 use Rattle.octets.specs.Bytes.{digit?, letter?, hex?}
 use Rattle.octets.specs.Same.{same?}
-use Rattle.url.specs.Bytes.{unreserved?}
+use Rattle.http_url.specs.Bytes.{unreserved?}
 use Rattle.escapes.specs.Resolved.{escaped_byte, unneeded?, resolved}
 use Rattle.escapes.specs.helpers.Units.{Resolves, percent?}
 

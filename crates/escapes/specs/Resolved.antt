@@ -2,7 +2,7 @@
 use Rattle.std.specs.Prelude.{ℕ, ◌+◌, ◌*◌, Bool, cond, ◌&&◌, List, [], ◌∷◌, eqb}
 use Prim.Native.Char.{code}
 use Rattle.octets.specs.Bytes.{hex?, hex_value}
-use Rattle.url.specs.Bytes.{unreserved?}
+use Rattle.http_url.specs.Bytes.{unreserved?}
 
 -- the byte that the hex digits of an escape name
 abbrev pub escaped_byte : (x y : ℕ) → ℕ

@@ -1,5 +1,6 @@
 // Paths and queries, resolved: each escape that is not needed is its character. RFC 2616 3.2.3.
 #![tactic(auto)]
+
 ghost use Rattle.std.specs.Prelude.{◌≡◌, ◌≤◌, ◌<◌, leb, length};
 ghost use Rattle.octets.specs.Same.{same?};
 ghost use Rattle.numerals.specs.Numeral.{put};

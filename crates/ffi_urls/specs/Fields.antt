@@ -1,9 +1,9 @@
 -- Which field of a struct is what.
 use Rattle.std.specs.Prelude.{true, false}
 use Rattle.grammar.specs.Reading.{Verdict, value, refused}
-use Rattle.url.specs.declared.Place.{Place}
-use Rattle.url.specs.declared.Place.TheVariants.{Absent, At}
-use Rattle.url.specs.declared.Url.{Url}
+use Rattle.http_url.specs.declared.Place.{Place}
+use Rattle.http_url.specs.declared.Place.TheVariants.{Absent, At}
+use Rattle.http_url.specs.declared.Url.{Url}
 use Rattle.ffi_urls.specs.declared.QzPart.{QzPart}
 use Rattle.ffi_urls.specs.declared.QzUrl.{QzUrl}
 

@@ -1,15 +1,16 @@
 // URLs for C and Rust. Nothing is decided here.
 #![tactic(auto)]
+
 ghost use Rattle.std.specs.Prelude.{◌≡◌, length};
 ghost use Rattle.grammar.specs.helpers.Judge.{header};
-ghost use Rattle.url.specs.Grammar.{rules as urls};
+ghost use Rattle.http_url.specs.Grammar.{rules as urls};
 ghost use Rattle.url_equal.specs.Meaning.{equality as url-equality};
 ghost use Rattle.url_normal.specs.Normal.{normal_writing, normal_output};
 ghost use Rattle.ffi.specs.Fields.{same_fields, written_fields};
 ghost use Rattle.ffi_urls.specs.Fields.{url_fields, part_fields};
 
 use ffi::{QzSame, QzWritten};
-use url::Place;
+use http_url::Place;
 
 // Where a part stands in the input.
 #[repr(C)]
@@ -55,8 +56,8 @@ const ABSENT: QzPart = QzPart {
 pub extern "C" fn qz_url_read(s: &[u8]) -> QzUrl
     ensures { result ≡ url_fields (header urls s.now) }
 {
-    match url::read(s) {
-        url::Reading::Read(u) => {
+    match http_url::read(s) {
+        http_url::Reading::Read(u) => {
             let path = u.path;
             let query = u.query;
             QzUrl {
@@ -71,7 +72,7 @@ pub extern "C" fn qz_url_read(s: &[u8]) -> QzUrl
                 query: part_of(query),
             }
         }
-        url::Reading::Refused(r) => QzUrl {
+        http_url::Reading::Refused(r) => QzUrl {
             number: r.number,
             place: r.place,
             host: QzSpan {

@@ -8,7 +8,7 @@ use Rattle.calendar.specs.Gregorian.{leap?, days_of_years, date?, time?}
 use Rattle.calendar.specs.Instants.{seconds_of}
 use Rattle.date.specs.Years.{full_year}
 use Rattle.date.specs.Grammar.{fault_of}
-use Rattle.url.specs.Bytes.{host?, unreserved?, path?, query?}
+use Rattle.http_url.specs.Bytes.{host?, unreserved?, path?, query?}
 use Rattle.framing.specs.helpers.Machine.{next_line_pos, line_live, line_ends, leave_line, enter_chunk, step, live, done, past_room}
 use Rattle.framing.specs.helpers.Scan.{answer}
 use Rattle.framing.specs.Reading.{judge, decode}

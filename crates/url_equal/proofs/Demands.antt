@@ -9,9 +9,9 @@ use Rattle.grammar.specs.Reading.{Verdict, value, refused, Answers}
 use Rattle.grammar.specs.helpers.Judge.{header}
 use Rattle.grammar.proofs.Demands.{answered_exactly}
 use Rattle.grammar.proofs.Comparing.{compare-read, compare_swap, compare_chain}
-use Rattle.url.specs.declared.Url.{Url}
-use Rattle.url.specs.Grammar.{rules}
-use Rattle.url.proofs.Demands.{one_way}
+use Rattle.http_url.specs.declared.Url.{Url}
+use Rattle.http_url.specs.Grammar.{rules}
+use Rattle.http_url.proofs.Demands.{one_way}
 use Rattle.url_equal.specs.Meaning.{Page, pages, same_page, equality}
 use Rattle.url_equal.specs.Equality.{EqualUrls}
 use Rattle.url_equal.specs.Places.{page_in, Placed}

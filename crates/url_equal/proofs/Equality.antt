@@ -16,17 +16,17 @@ use Rattle.grammar.proofs.Demands.{one_parse}
 use Rattle.grammar.proofs.Values.{answered-alike}
 use Rattle.octets.specs.Case.{alike}
 use Rattle.octets.proofs.SameBytes.{same-is}
-use Rattle.url.specs.Bytes.{PATH, QUERY}
-use Rattle.url.specs.Grammar as G
-use Rattle.url.specs.Grammar.{Name, host, port, path, query, text_of, host_part, url, is_host, is_path, is_query, named, rules}
+use Rattle.http_url.specs.Bytes.{PATH, QUERY}
+use Rattle.http_url.specs.Grammar as G
+use Rattle.http_url.specs.Grammar.{Name, host, port, path, query, text_of, host_part, url, is_host, is_path, is_query, named, rules}
 use Rattle.escapes.specs.Resolved.{resolved}
 use Rattle.escapes.specs.Symbols.{Symbol, character, Spelled, nothing, a_character, EqualTexts}
 use Rattle.escapes.proofs.Escapes.{equal-spelled, spelled}
 use Rattle.url_equal.specs.Meaning.{lower_all, Page, page, pages, host_text, path_text, query_text, same_page}
 use Rattle.url_equal.specs.Equality.{text_of_host, text_of_path, EqualQueries, both_absent, both_there, EqualParts, HasParts, EqualUrls}
-use Rattle.url.proofs.Demands.{one_way}
+use Rattle.http_url.proofs.Demands.{one_way}
 use Rattle.url_equal.proofs.Meaning.{alike-lower}
-use Rattle.url.proofs.Scan.{path_no_percent, query_no_percent}
+use Rattle.http_url.proofs.Scan.{path_no_percent, query_no_percent}
 use Rattle.url_equal.proofs.Pages.{one-page}
 
 -- ## Paths and queries are symbols

@@ -7,7 +7,7 @@ use Rattle.grammar.specs.Comparing.{Comparison, outcome, refused_at, compare}
 use Rattle.grammar.specs.Text.{bytes}
 use Rattle.grammar.specs.helpers.Judge.{header}
 use Rattle.octets.specs.Bytes.{digit?, letter?, hex?}
-use Rattle.url.specs.Bytes.{host?, unreserved?, path?, query?}
+use Rattle.http_url.specs.Bytes.{host?, unreserved?, path?, query?}
 use Rattle.url_equal.specs.Meaning.{pages, same_page}
 
 abbrev compared : String → String → Comparison Bool

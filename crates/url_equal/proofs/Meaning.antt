@@ -17,11 +17,11 @@ use Rattle.grammar.proofs.Pieces.{slice-within, slice_is}
 use Rattle.grammar.proofs.Values.{answered-alike}
 use Rattle.octets.specs.Case.{alike}
 use Rattle.octets.specs.Same.{same?}
-use Rattle.url.specs.declared.Url.{Url}
-use Rattle.url.specs.Grammar as G
-use Rattle.url.specs.Grammar.{Name, url, is_host, is_path, is_query, named, host_span, place, rules}
-use Rattle.url.proofs.Demands.{one_way}
-use Rattle.url.specs.Places.{text_at}
+use Rattle.http_url.specs.declared.Url.{Url}
+use Rattle.http_url.specs.Grammar as G
+use Rattle.http_url.specs.Grammar.{Name, url, is_host, is_path, is_query, named, host_span, place, rules}
+use Rattle.http_url.proofs.Demands.{one_way}
+use Rattle.http_url.specs.Places.{text_at}
 use Rattle.escapes.specs.Resolved.{resolved}
 use Rattle.url_equal.specs.Meaning.{lower_all, host_text, path_text, query_text, page, pages, same_query, same_page}
 use Rattle.url_equal.specs.Places.{Inside, Within, path_in, query_in, page_in, Placed}

@@ -7,7 +7,7 @@ use Rattle.grammar.specs.Reading as G
 use Rattle.grammar.specs.Text.{bytes}
 use Rattle.grammar.specs.helpers.Judge.{header}
 use Rattle.octets.specs.Case.{alike}
-use Rattle.url.specs.Grammar.{Name, url, is_host, is_port, is_path, is_query, named, port_number, value, rules}
+use Rattle.http_url.specs.Grammar.{Name, url, is_host, is_port, is_path, is_query, named, port_number, value, rules}
 use Rattle.escapes.specs.Symbols.{EqualTexts}
 
 -- ## Parts

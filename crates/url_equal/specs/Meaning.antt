@@ -7,7 +7,7 @@ use Rattle.grammar.specs.Comparing.{Comparison, compare}
 use Rattle.grammar.specs.Text.{bytes}
 use Rattle.grammar.specs.helpers.Judge.{header}
 use Rattle.octets.specs.Same.{same?}
-use Rattle.url.specs.Grammar.{Name, is_host, is_port, is_path, is_query, named, port_number, rules}
+use Rattle.http_url.specs.Grammar.{Name, is_host, is_port, is_path, is_query, named, port_number, rules}
 use Rattle.escapes.specs.Resolved.{resolved}
 
 -- "host ignores case"

@@ -2,11 +2,11 @@
 use Rattle.std.specs.Prelude.{ℕ, ◌+◌, ◌≤◌, List, length}
 use Rattle.std.proofs.Math.Option.{Option, none, some}
 use Rattle.grammar.specs.Text.{bytes}
-use Rattle.url.specs.declared.Span.{Span}
-use Rattle.url.specs.declared.Place.{Place}
-use Rattle.url.specs.declared.Place.TheVariants.{Absent, At}
-use Rattle.url.specs.declared.Url.{Url}
-use Rattle.url.specs.Places.{text_at}
+use Rattle.http_url.specs.declared.Span.{Span}
+use Rattle.http_url.specs.declared.Place.{Place}
+use Rattle.http_url.specs.declared.Place.TheVariants.{Absent, At}
+use Rattle.http_url.specs.declared.Url.{Url}
+use Rattle.http_url.specs.Places.{text_at}
 use Rattle.escapes.specs.Resolved.{resolved}
 use Rattle.url_equal.specs.Meaning.{Page, lower_all}
 

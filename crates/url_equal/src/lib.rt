@@ -1,5 +1,6 @@
 // http URLs compared by what they mean: RFC 2616 3.2.3.
 #![tactic(auto)]
+
 ghost use Rattle.std.specs.Prelude.{◌≡◌};
 ghost use Rattle.octets.specs.Comparing.{comparison};
 ghost use Rattle.octets.specs.Same.{same?};
@@ -7,18 +8,18 @@ ghost use Rattle.url_equal.specs.Meaning.{same_query, same_page, equality};
 ghost use Rattle.url_equal.specs.Places.{path_in, query_in, page_in};
 ghost use Rattle.url_equal.specs.helpers.Refusals.{refusal_of};
 
+use http_url::{Place, Reading, Url};
 use octets::{Compared, Refusal};
-use url::{Place, Reading, Url};
 
 // Reads the first, then the second, and compares what they mean.
 pub fn equal(a: &[u8], b: &[u8]) -> Compared
     ensures { comparison result ≡ equality a.now b.now }
 {
-    let first = url::read(a);
+    let first = http_url::read(a);
     let Reading::Read(u) = first else {
         return Compared::FirstRefused(refusal(first));
     };
-    let second = url::read(b);
+    let second = http_url::read(b);
     let Reading::Read(v) = second else {
         return Compared::SecondRefused(refusal(second));
     };
@@ -48,7 +49,7 @@ fn same_url(a: &[u8], u: Url, b: &[u8], v: Url) -> bool
 {
     let host_a = u.host;
     let host_b = v.host;
-    if !octets::same_ignoring_case(url::text_at(a, host_a), url::text_at(b, host_b)) {
+    if !octets::same_ignoring_case(http_url::text_at(a, host_a), http_url::text_at(b, host_b)) {
         return false;
     }
     if u.port != v.port {
@@ -75,7 +76,10 @@ fn same_query(a: &[u8], place_a: Place, b: &[u8], place_b: Place) -> bool
         },
         Place::At(span_a) => match place_b {
             Place::Absent => false,
-            Place::At(span_b) => escapes::same(url::text_at(a, span_a), url::text_at(b, span_b)),
+            Place::At(span_b) => escapes::same(
+                http_url::text_at(a, span_a),
+                http_url::text_at(b, span_b),
+            ),
         },
     }
 }
@@ -87,11 +91,14 @@ fn same_path(a: &[u8], place_a: Place, b: &[u8], place_b: Place) -> bool
     match place_a {
         Place::Absent => match place_b {
             Place::Absent => true,
-            Place::At(span_b) => escapes::same(b"/", url::text_at(b, span_b)),
+            Place::At(span_b) => escapes::same(b"/", http_url::text_at(b, span_b)),
         },
         Place::At(span_a) => match place_b {
-            Place::Absent => escapes::same(url::text_at(a, span_a), b"/"),
-            Place::At(span_b) => escapes::same(url::text_at(a, span_a), url::text_at(b, span_b)),
+            Place::Absent => escapes::same(http_url::text_at(a, span_a), b"/"),
+            Place::At(span_b) => escapes::same(
+                http_url::text_at(a, span_a),
+                http_url::text_at(b, span_b),
+            ),
         },
     }
 }

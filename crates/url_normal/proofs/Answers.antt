@@ -11,9 +11,9 @@ use Rattle.octets.specs.declared.Written.{Written}
 use Rattle.octets.specs.declared.Written.TheVariants.{Length, Refused}
 use Rattle.octets.specs.Writing.{written}
 use Rattle.octets.proofs.Writing.{refuses-short, writes-all}
-use Rattle.url.specs.declared.Url.{Url}
-use Rattle.url.specs.Grammar.{rules}
-use Rattle.url.proofs.Demands.{reading}
+use Rattle.http_url.specs.declared.Url.{Url}
+use Rattle.http_url.specs.Grammar.{rules}
+use Rattle.http_url.proofs.Demands.{reading}
 use Rattle.url_equal.specs.Meaning.{pages}
 use Rattle.url_equal.specs.Places.{page_in}
 use Rattle.url_equal.proofs.Meaning.{means, means-nothing}

@@ -14,10 +14,10 @@ use Rattle.grammar.proofs.Demands.{answered_exactly}
 use Rattle.grammar.proofs.Values.{revalued}
 use Rattle.grammar.proofs.Texts.{spell-made, spell-taken}
 use Rattle.scans.proofs.Limits.{number-sound, number-within}
-use Rattle.url.specs.Grammar as G
-use Rattle.url.specs.Grammar.{Name, scheme, host_part, url, is_port, largest_port, rules}
-use Rattle.url.proofs.Demands.{one_way}
-use Rattle.url.proofs.Ports.{named-within}
+use Rattle.http_url.specs.Grammar as G
+use Rattle.http_url.specs.Grammar.{Name, scheme, host_part, url, is_port, largest_port, rules}
+use Rattle.http_url.proofs.Demands.{one_way}
+use Rattle.http_url.proofs.Ports.{named-within}
 use Rattle.url_equal.specs.Meaning.{Page, page, pages}
 use Rattle.url_equal.specs.Equality.{HasParts}
 use Rattle.url_equal.proofs.Demands.{meaning}

@@ -13,7 +13,7 @@ use Rattle.grammar.specs.Refusals.{OUTPUT_TOO_SHORT, VALUE_TOO_LONG}
 use Rattle.grammar.specs.helpers.Judge.{header}
 use Rattle.octets.proofs.Writing.{stands_in_front}
 use Rattle.octets.proofs.Answers.{rest-kept}
-use Rattle.url.specs.Grammar.{Name, is_path, named, rules}
+use Rattle.http_url.specs.Grammar.{Name, is_path, named, rules}
 use Rattle.url_equal.specs.Meaning.{Page, page, pages, equality}
 use Rattle.url_equal.specs.Equality.{HasParts, EqualUrls}
 use Rattle.url_equal.proofs.Meaning.{means-nothing}

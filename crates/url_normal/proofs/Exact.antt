@@ -18,8 +18,8 @@ use Rattle.octets.specs.Numbers.{number}
 use Rattle.numerals.specs.Numeral.{numeral}
 use Rattle.numerals.proofs.Demands.{some_digit}
 use Rattle.numerals.proofs.Reading.{numeral-number}
-use Rattle.url.specs.Grammar.{Name, port, path, query, scheme, is_port, is_path, is_query, named, largest_port, port_text, rules}
-use Rattle.url.proofs.Demands.{one_way}
+use Rattle.http_url.specs.Grammar.{Name, port, path, query, scheme, is_port, is_path, is_query, named, largest_port, port_text, rules}
+use Rattle.http_url.proofs.Demands.{one_way}
 use Rattle.escapes.specs.Resolved.{resolved}
 use Rattle.escapes.specs.Symbols.{NoneUnneeded, nothing, a_character}
 use Rattle.escapes.proofs.Escapes.{none_unneeded, already_resolved}

@@ -7,7 +7,7 @@ use Rattle.grammar.specs.Refusals.{MALFORMED, OUTPUT_TOO_SHORT}
 use Rattle.grammar.specs.Text.{bytes}
 use Rattle.octets.specs.Bytes.{digit?, letter?, hex?}
 use Rattle.numerals.specs.Numeral.{glyph, digits, width_in, width, numeral}
-use Rattle.url.specs.Bytes.{host?, unreserved?, path?, query?}
+use Rattle.http_url.specs.Bytes.{host?, unreserved?, path?, query?}
 use Rattle.url_normal.specs.Normal.{normal_form, normal_writing}
 
 abbrev Gives : String → String → Type 0

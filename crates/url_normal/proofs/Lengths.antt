@@ -17,9 +17,9 @@ use Rattle.octets.specs.Bytes.{digit?}
 use Rattle.octets.specs.Numbers.{number}
 use Rattle.numerals.specs.Numeral.{numeral, every}
 use Rattle.numerals.proofs.Reading.{numeral-short}
-use Rattle.url.specs.Grammar.{Name, is_path, named, rules}
-use Rattle.url.specs.declared.Url.{Url}
-use Rattle.url.proofs.Demands.{one_way}
+use Rattle.http_url.specs.Grammar.{Name, is_path, named, rules}
+use Rattle.http_url.specs.declared.Url.{Url}
+use Rattle.http_url.proofs.Demands.{one_way}
 use Rattle.escapes.proofs.Resolved.{resolved-short}
 use Rattle.url_equal.specs.Meaning.{Page, page}
 use Rattle.url_equal.specs.Equality.{HasParts}

@@ -17,8 +17,8 @@ use Rattle.octets.proofs.Spans.{by_range}
 use Rattle.numerals.specs.Numeral.{numeral, every}
 use Rattle.numerals.proofs.Demands.{some_digit}
 use Rattle.numerals.proofs.Reading.{decimal_digits, numeral-number}
-use Rattle.url.specs.Bytes.{PATH, QUERY, host?, unreserved?, path?, query?, host-below}
-use Rattle.url.specs.Grammar.{scheme, is_port, port_text, largest_port}
+use Rattle.http_url.specs.Bytes.{PATH, QUERY, host?, unreserved?, path?, query?, host-below}
+use Rattle.http_url.specs.Grammar.{scheme, is_port, port_text, largest_port}
 use Rattle.escapes.specs.Resolved.{resolved}
 use Rattle.escapes.specs.Symbols.{nothing, a_character}
 use Rattle.escapes.proofs.Resolved.{character-first}

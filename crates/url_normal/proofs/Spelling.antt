@@ -10,10 +10,10 @@ use Rattle.grammar.proofs.Plain.{plain_byte, plain-star, plain-seq, plain-part}
 use Rattle.grammar.proofs.Texts.{Each, star-made, star-each, plus-made, plus-each}
 use Rattle.octets.specs.Bytes.{digit?}
 use Rattle.octets.specs.Classes.{DIGIT}
-use Rattle.url.specs.Bytes.{HOST, PATH, QUERY, host?}
-use Rattle.url.specs.Grammar.{Name, host, port, path, query, text_of, query_part, path_part, port_part, host_part}
-use Rattle.url.specs.Grammar.{default_port, port_text}
-use Rattle.url.proofs.Scan.{path_no_percent, query_no_percent}
+use Rattle.http_url.specs.Bytes.{HOST, PATH, QUERY, host?}
+use Rattle.http_url.specs.Grammar.{Name, host, port, path, query, text_of, query_part, path_part, port_part, host_part}
+use Rattle.http_url.specs.Grammar.{default_port, port_text}
+use Rattle.http_url.proofs.Scan.{path_no_percent, query_no_percent}
 use Rattle.escapes.specs.Resolved.{resolved}
 use Rattle.escapes.proofs.Escapes.{Text, text_parsed, parsed_text}
 use Rattle.url_equal.specs.Meaning.{Page, page, lower_all}

@@ -10,11 +10,11 @@ use Rattle.numerals.specs.Numeral.{numeral}
 use Rattle.numerals.proofs.Digits.{numeral-length, width-below}
 use Rattle.text.specs.Placing.{placed, behind}
 use Rattle.text.proofs.Placing.{placed-front, Put, put-none, put_then, front_fits, front-then, room-behind}
-use Rattle.url.specs.declared.Span.{Span}
-use Rattle.url.specs.declared.Place.{Place}
-use Rattle.url.specs.declared.Place.TheVariants.{Absent, At}
-use Rattle.url.specs.Places.{text_at}
-use Rattle.url.specs.Grammar.{scheme}
+use Rattle.http_url.specs.declared.Span.{Span}
+use Rattle.http_url.specs.declared.Place.{Place}
+use Rattle.http_url.specs.declared.Place.TheVariants.{Absent, At}
+use Rattle.http_url.specs.Places.{text_at}
+use Rattle.http_url.specs.Grammar.{scheme}
 use Rattle.escapes.proofs.Resolved.{resolved-short}
 use Rattle.url_equal.specs.Meaning.{lower_all, Page}
 use Rattle.url_equal.specs.Places.{path_in, query_in}

@@ -8,7 +8,7 @@ use Rattle.grammar.specs.Text.{bytes}
 use Rattle.grammar.specs.helpers.Judge.{header}
 use Rattle.octets.specs.Writing.{output, writing}
 use Rattle.numerals.specs.Numeral.{numeral}
-use Rattle.url.specs.Grammar.{scheme, default_port}
+use Rattle.http_url.specs.Grammar.{scheme, default_port}
 use Rattle.url_equal.specs.Meaning.{Page, pages}
 
 -- "no port 80, other ports without leading zeros"

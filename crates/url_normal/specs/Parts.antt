@@ -5,7 +5,7 @@ use Rattle.std.proofs.Math.Option.{Option, none, some}
 use Rattle.grammar.specs.Grammar.{Part}
 use Rattle.octets.specs.Numbers.{number}
 use Rattle.numerals.specs.Numeral.{numeral}
-use Rattle.url.specs.Grammar.{Name, scheme, default_port, is_host, is_port, is_path, is_query, named}
+use Rattle.http_url.specs.Grammar.{Name, scheme, default_port, is_host, is_port, is_path, is_query, named}
 use Rattle.escapes.specs.Symbols.{NoneUnneeded}
 use Rattle.url_equal.specs.Meaning.{lower_all}
 use Rattle.url_equal.specs.Equality.{text_of_host, HasParts}

@@ -1,5 +1,6 @@
 // http URLs in their normal form: document 02, request (x).
 #![tactic(auto)]
+
 ghost use Rattle.std.specs.Prelude.{◌≡◌, ◌++◌, min, ◌+◌, ◌≤◌, ◌<◌, length, drop};
 ghost use Rattle.grammar.specs.Reading.{value_limit};
 ghost use Rattle.octets.specs.Writing.{written};
@@ -9,8 +10,8 @@ ghost use Rattle.url_equal.specs.Places.{path_in, query_in, page_in};
 ghost use Rattle.url_normal.specs.Normal.{port_form, query_form, normal, within_limit};
 ghost use Rattle.url_normal.specs.Normal.{answer_in_room, output_after, normal_writing, normal_output};
 
+use http_url::{Place, Reading, Url};
 use octets::{OUTPUT_TOO_SHORT, Refusal, VALUE_LIMIT, VALUE_TOO_LONG, Written};
-use url::{Place, Reading, Url};
 
 // The bytes of `http://`.
 const SCHEME_LEN: usize = 7;
@@ -23,7 +24,7 @@ pub fn normalize(s: &[u8], out: &mut [u8]) -> Written
     ensures answers { written result ≡ normal_writing s.now (length out.old) }
     ensures writes { out.new ≡ normal_output s.now out.old }
 {
-    match url::read(s) {
+    match http_url::read(s) {
         Reading::Refused(refusal) => Written::Refused(refusal),
         Reading::Read(u) => write_parts(s, u, out),
     }
@@ -72,7 +73,7 @@ fn parts_len(s: &[u8], u: Url) -> usize
     let path = u.path;
     let query = u.query;
     SCHEME_LEN
-        + url::text_at(s, host).len()
+        + http_url::text_at(s, host).len()
         + port_len(u.port)
         + path_len(s, path)
         + query_len(s, query)
@@ -93,7 +94,7 @@ fn path_len(s: &[u8], path: Place) -> usize
 {
     match path {
         Place::Absent => 1,
-        Place::At(span) => escapes::resolved_len(url::text_at(s, span)),
+        Place::At(span) => escapes::resolved_len(http_url::text_at(s, span)),
     }
 }
 
@@ -103,7 +104,7 @@ fn query_len(s: &[u8], query: Place) -> usize
 {
     match query {
         Place::Absent => 0,
-        Place::At(span) => 1 + escapes::resolved_len(url::text_at(s, span)),
+        Place::At(span) => 1 + escapes::resolved_len(http_url::text_at(s, span)),
     }
 }
 
@@ -118,7 +119,7 @@ fn put_parts(s: &[u8], u: Url, out: &mut [u8]) -> usize
     let path = u.path;
     let query = u.query;
     let scheme_end = text::put_bytes(b"http://", out, 0);
-    let host_end = put_lower(url::text_at(s, host), out, scheme_end);
+    let host_end = put_lower(http_url::text_at(s, host), out, scheme_end);
     let port_end = put_port(u.port, out, host_end);
     let path_end = put_path(s, path, out, port_end);
     put_query(s, query, out, path_end)
@@ -165,7 +166,7 @@ fn put_path(s: &[u8], path: Place, out: &mut [u8], at: usize) -> usize
 {
     match path {
         Place::Absent => text::put_bytes(b"/", out, at),
-        Place::At(span) => escapes::put_resolved(url::text_at(s, span), out, at),
+        Place::At(span) => escapes::put_resolved(http_url::text_at(s, span), out, at),
     }
 }
 
@@ -178,7 +179,7 @@ fn put_query(s: &[u8], query: Place, out: &mut [u8], at: usize) -> usize
         Place::Absent => at,
         Place::At(span) => {
             let mark_end = text::put_bytes(b"?", out, at);
-            escapes::put_resolved(url::text_at(s, span), out, mark_end)
+            escapes::put_resolved(http_url::text_at(s, span), out, mark_end)
         }
     }
 }

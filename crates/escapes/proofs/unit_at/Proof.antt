@@ -8,7 +8,7 @@ use mathlib.Core.Bool.{true, false, cond}
 use lib.ListN.{get_or}
 use Rattle.octets.specs.Bytes.{hex?, hex_value}
 use Rattle.octets.proofs.Bytes.{is_hex, no_hex}
-use Rattle.url.specs.Bytes.{unreserved?}
+use Rattle.http_url.specs.Bytes.{unreserved?}
 use Rattle.escapes.specs.Resolved.{escaped_byte, unneeded?}
 use Rattle.escapes.proofs.Tables.{unreserved_bits}
 use Rattle.escapes.proofs.Resolved.{kept-character, kept-short, kept_needed, taken_out}

@@ -4,9 +4,9 @@ use mathlib.Core.Path.{◌≡◌, refl, sym, ap}
 use mathlib.Core.List.{[], ◌∷◌}
 use denote.Enum.Declared.{tag_of}
 use types.Run.{OneOf, miss}
-use Rattle.url.specs.declared.Place.{Place}
-use Rattle.url.specs.declared.Place.TheVariants.{Absent, At}
-use Rattle.url.specs.contracts.Place.{the_type}
+use Rattle.http_url.specs.declared.Place.{Place}
+use Rattle.http_url.specs.declared.Place.TheVariants.{Absent, At}
+use Rattle.http_url.specs.contracts.Place.{the_type}
 use Rattle.ffi_urls.specs.Fields.{part_fields}
 use Rattle.ffi_urls.proofs.part_of.Statement.{statement}
 use Rattle.ffi_urls.proofs.part_of.Tie as tie

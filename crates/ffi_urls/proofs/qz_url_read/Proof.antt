@@ -1,8 +1,8 @@
 -- `ffi_urls::qz_url_read` meets its contract.
 use borrow.Author.Rules.{rules}
 use mathlib.Core.Path.{sym, ap, ◌∙◌}
-use Rattle.url.specs.Reading.{verdict}
-use Rattle.url.specs.declared.Url.{Url}
+use Rattle.http_url.specs.Reading.{verdict}
+use Rattle.http_url.specs.declared.Url.{Url}
 use Rattle.ffi_urls.specs.declared.QzPart.{QzPart}
 use Rattle.ffi_urls.specs.declared.QzUrl.{QzUrl}
 use Rattle.ffi_urls.specs.Fields.{url_fields, part_fields}

@@ -7,11 +7,11 @@ use Rattle.grammar.specs.Comparing.{compare, outcome}
 use Rattle.grammar.specs.Reading.{refused}
 use Rattle.grammar.specs.helpers.Judge.{header}
 use Rattle.octets.specs.declared.Refusal.{Refusal}
-use Rattle.url.specs.declared.Reading.{Reading}
-use Rattle.url.specs.declared.Reading.TheVariants.{Refused}
-use Rattle.url.specs.Grammar.{rules}
+use Rattle.http_url.specs.declared.Reading.{Reading}
+use Rattle.http_url.specs.declared.Reading.TheVariants.{Refused}
+use Rattle.http_url.specs.Grammar.{rules}
 use Rattle.url_equal.specs.Meaning.{same_page, pages}
-use Rattle.url.specs.Reading.{verdict}
+use Rattle.http_url.specs.Reading.{verdict}
 use Rattle.url_equal.specs.helpers.Refusals.{refusal_of}
 use Rattle.url_equal.proofs.Meaning.{means, means-nothing}
 use Rattle.url_equal.proofs.equal.Statement.{statement}

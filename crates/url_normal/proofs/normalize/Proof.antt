@@ -2,7 +2,7 @@
 use borrow.Author.Rules.{rules}
 use mathlib.Core.Path.{sym, ap, ◌∙◌}
 use lib.ListN.{length}
-use Rattle.url.specs.Reading.{verdict}
+use Rattle.http_url.specs.Reading.{verdict}
 use Rattle.url_normal.specs.Normal.{answer_in_room, output_after}
 use Rattle.url_normal.proofs.Lengths.{form-short}
 use Rattle.url_normal.proofs.Answers.{readable_short, refused_as, read_as}

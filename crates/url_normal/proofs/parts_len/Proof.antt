@@ -2,7 +2,7 @@
 use native.Mathlib.Omega.{arith}
 use mathlib.Core.Path.{ap}
 use lib.ListN.{length}
-use Rattle.url.specs.Places.{text_at}
+use Rattle.http_url.specs.Places.{text_at}
 use Rattle.url_equal.specs.Places.{page_in}
 use Rattle.url_normal.proofs.Writer.{lower-length, text-short, path-short, query-short, normal-length}
 use borrow.Author.Rules.{rules}

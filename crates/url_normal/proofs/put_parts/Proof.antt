@@ -4,7 +4,7 @@ use borrow.Author.Rules.{rules}
 use mathlib.Core.Path.{ap, ◌∙◌}
 use lib.ListN.{length}
 use Rattle.text.specs.Placing.{placed, behind}
-use Rattle.url.specs.Places.{text_at}
+use Rattle.http_url.specs.Places.{text_at}
 use Rattle.url_equal.specs.Meaning.{lower_all}
 use Rattle.url_equal.specs.Places.{page_in}
 use Rattle.url_normal.proofs.Writer.{lower-length, host-fits, port-fits, query-fits, normal-put}

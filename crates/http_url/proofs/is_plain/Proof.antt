@@ -1,0 +1,42 @@
+-- `http_url::is_plain` meets its contract: computed over all bytes, one that becomes one of a to z is in a path.
+use Rattle.std.proofs.Common.{◌≡◌, ℕ, ◌+◌, ◌%◌, ◌<◌, ◌≤◌, Bool, true, cond, leb, sym, refl, ap, ◌∙◌, true≢false, arith, rules, le-leb}
+use Rattle.grammar.specs.Grammar.{lower}
+use Rattle.octets.specs.Bytes.{within, digit?, letter?}
+use Rattle.octets.proofs.Spans.{by_range}
+use Rattle.http_url.specs.Bytes.{path?, unreserved?}
+use Rattle.http_url.proofs.is_plain.Statement.{statement}
+use Rattle.http_url.proofs.is_plain.Tie as tie
+
+small-letter : ℕ → ℕ
+small-letter b = lower (cond (within 38 59 b) 97 b)
+
+in_path : ℕ → Bool
+in_path b = cond (leb 97 (small-letter b)) (cond (leb (small-letter b) 122) (path? b) true) true
+
+chosen : (n : ℕ) (x : Bool) → cond (leb 97 n) (cond (leb n 122) x true) true ≡ true → 97 ≤ n → n ≤ 122 → x ≡ true
+chosen n x e h k = rw (le-leb 97 n h, le-leb n 122 k) at e
+
+plain-path : (b n : ℕ) → b < 256 → n ≡ small-letter b → 97 ≤ n → n ≤ 122 → path? b ≡ true
+unfolding lower path? unreserved? digit? letter? small-letter in_path
+plain-path b n s z h k =
+    chosen n (path? b) (ap (λ (m : ℕ). cond (leb 97 m) (cond (leb m 122) (path? b) true) true) z
+    ∙ by_range in_path (λ (m : ℕ). true) 0 256 refl b (omega arith) (omega arith)) h k
+
+returns : tie.Need-returns
+unfolding small-letter
+returns c e =
+    let l = c.before.before.lower-case in
+    let f = c.before.before.before.folded in
+    let b = c.before.before.before.before.args.b in
+    let w : (c.before.wrapping-sub-u8.result + 97) % 256 ≡ l.result = c.before.wrapping-sub-u8.ensures in
+    plain-path b l.result (omega arith) (l.ensures ∙ ap lower f.ensures) (omega arith) (omega arith)
+
+pub is-plain-spec : {M : Type 1} → statement M
+is-plain-spec =
+    tie.close
+    (tie.spec
+    (λ c κs. search rules)
+    (λ c κs. search rules)
+    (λ c κs. search rules)
+    returns
+    (λ c e. absurd (true≢false (sym e))))
