@@ -2,8 +2,8 @@
 use Prim.Native.Nat.{ℕ, ◌+◌, ◌*◌, ◌/◌, ◌%◌, ◌<◌}
 use native.Mathlib.Omega.{arith}
 use mathlib.Core.Path.{◌≡◌, refl, sym, ap, ap₂, ◌∙◌}
-use borrow.Author.Tests.{not-true, not-false, ltb-true, ltb-false, lt-leb, le-leb}
-use mathlib.Core.Bool.{Bool, true, false, cond, ◌&&◌, not, true≢false}
+use borrow.Author.Tests.{ltb-true, ltb-false, lt-leb, le-leb}
+use mathlib.Core.Bool.{Bool, true, false, cond, ◌&&◌, true≢false}
 use lib.IntN.{ℤ, pos, negsuc}
 use lib.Signed.{lt_z}
 use Rattle.calendar.specs.declared.Fields.{Fields}
@@ -13,27 +13,23 @@ use Rattle.calendar.specs.Gregorian.{day_number, weekday, date?, time?}
 use Rattle.calendar.specs.Instants.{since_epoch, seconds_of, located, told, in_range?, since_first, fields_on, fields_at, weekday_at}
 use Rattle.calendar.proofs.Dates.{time-is}
 
--- a test that was not passed over
-pub holds : (t u : Bool) → t ≡ u → not t ≡ false → u ≡ true
-holds t u e n = sym e ∙ not-false t n
-
 module _ (f : Fields) where
-  pub nowhere_date : (t : Bool) → t ≡ date? f.year f.month f.day → not t ≡ true → Nowhere ≡ located f
+  pub nowhere_date : (t : Bool) → t ≡ date? f.year f.month f.day → t ≡ false → Nowhere ≡ located f
   unfolding located
-  nowhere_date t e n = rw (sym e ∙ not-true t n)
+  nowhere_date t e n = rw (sym e ∙ n)
 
   and_no : (a b : Bool) → b ≡ false → a && b ≡ false
   and_no true b e = e
   and_no false b e = refl
 
-  pub nowhere_time : (t : Bool) → t ≡ time? f.hour f.minute f.second → not t ≡ true → Nowhere ≡ located f
+  pub nowhere_time : (t : Bool) → t ≡ time? f.hour f.minute f.second → t ≡ false → Nowhere ≡ located f
   unfolding located
-  nowhere_time t e n = rw (and_no (date? f.year f.month f.day) (time? f.hour f.minute f.second) (sym e ∙ not-true t n))
+  nowhere_time t e n = rw (and_no (date? f.year f.month f.day) (time? f.hour f.minute f.second) (sym e ∙ n))
 
-  pub second_fits : (t : Bool) → t ≡ time? f.hour f.minute f.second → not t ≡ false
+  pub second_fits : (t : Bool) → t ≡ time? f.hour f.minute f.second → t ≡ true
       → (f.hour * 3600 + f.minute * 60 + f.second < 86400) × (f.hour * 3600 < 86400) × (f.minute * 60 < 3600)
   second_fits t e n =
-      let v = time-is f.hour f.minute f.second (holds t (time? f.hour f.minute f.second) e n) in
+      let v = time-is f.hour f.minute f.second (sym e ∙ n) in
       (omega (arith, v.hours, v.minutes, v.seconds), omega (arith, v.hours), omega (arith, v.minutes))
 
   pub located-at : (n : ℕ) (s : ℤ) → date? f.year f.month f.day ≡ true → time? f.hour f.minute f.second ≡ true

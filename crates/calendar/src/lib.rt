@@ -1,5 +1,6 @@
 // The Gregorian calendar and instants in seconds since 1970-01-01 00:00:00.
 #![tactic(auto)]
+
 ghost use Rattle.std.specs.Prelude.{◌≡◌, true, ◌+◌, ◌*◌, ◌/◌, ◌%◌, ◌≤◌, ◌<◌};
 ghost use Rattle.calendar.specs.Gregorian.{leap?, month_length, days_of_years, days_of_months, day_number, date?, time?};
 ghost use Rattle.calendar.specs.Instants.{located, told, in_range?, since_first, since_epoch};
