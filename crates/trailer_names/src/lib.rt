@@ -1,5 +1,6 @@
 // The names that no trailer may hold, and how far a name agrees with them: RFC 2616 14.40.
 #![tactic(auto)]
+
 ghost use Rattle.std.specs.Prelude.{◌≡◌, ◌&&◌, ℕ, ◌≤◌};
 ghost use Rattle.grammar.specs.Grammar.{lower};
 ghost use Rattle.framing.specs.Grammar.{forbidden};
