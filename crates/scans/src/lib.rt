@@ -1,6 +1,7 @@
 // Scans over the bytes of a slice: the run of a class, a word in any letter case, a decimal number under a limit, a quoted string; and the
 // theory of each against the grammars that contain it.
 #![tactic(auto)]
+
 ghost use Rattle.std.specs.Prelude.{◌≡◌, ℕ, ◌+◌, ◌*◌, ◌<◌, ◌≤◌, Bool, true, false, length, drop, nat_le, slice_index};
 ghost use Rattle.octets.specs.Bytes.{token?, text?, within};
 ghost use Rattle.octets.specs.helpers.Bits.{Bits};
