@@ -1,14 +1,14 @@
 // Document 01's bench program: lines of hexadecimal, one frame a line, each decoded as a chunked body.
 #![tactic(auto)]
-ghost use Rattle.std.specs.Prelude.{◌≡◌, ◌+◌, length};
-ghost use Rattle.io.specs.Counts.{IsPrefixLen};
+
+ghost use Rattle.std.specs.Prelude.{◌≡◌, ◌+◌, ◌≤◌, length};
 ghost use Rattle.text.specs.Placing.{placed};
 ghost use Rattle.report.specs.Saying.{said};
 ghost use Rattle.report.specs.Calls.{piece_said, piece_held, last_said, Foremost};
 ghost use Rattle.bench.specs.helpers.Fits.{Buffers, PieceFits, LastFits, LineFits};
 
-use libc::{STDERR_FILENO, STDIN_FILENO, STDOUT_FILENO};
 use lines::Hex;
+use std::io::Read;
 
 // The room of a body, and of a frame: two digits make a byte.
 const ROOM: usize = 16384;
@@ -29,27 +29,35 @@ struct Progress {
     used: usize,
 }
 
-fn main() {
+fn main(rt: HostRuntime) {
     let mut piece = [0u8; PIECE];
     let mut line = [0u8; LINE_LENGTH];
     let mut frame = [0u8; ROOM];
     let mut room = [0u8; ROOM];
     let mut out = [0u8; TEXT];
-    run(&mut piece, &mut line, &mut frame, &mut room, &mut out);
+    run(&rt, &mut piece, &mut line, &mut frame, &mut room, &mut out);
 }
 
 // Reads and writes, which no contract can speak of. What is put to be written, those of `put_piece` and `put_last` say.
-fn run(piece: &mut [u8], line: &mut [u8], frame: &mut [u8], room: &mut [u8], out: &mut [u8])
+fn run(
+    rt: &(impl Input + Print + Eprint),
+    piece: &mut [u8],
+    line: &mut [u8],
+    frame: &mut [u8],
+    room: &mut [u8],
+    out: &mut [u8],
+)
     requires { Buffers piece.old line.old frame.old room.old out.old }
 {
-    let held = read_all(piece, line, frame, room, out);
+    let held = read_all(rt, piece, line, frame, room, out);
     let used = put_last(&line[..held], frame, room, out);
-    written(&out[..used]);
+    written(rt, &out[..used]);
 }
 
 // Answers the lines that end with LF, and gives how many bytes are held of one behind them; 0 once a write failed, so that nothing more
 // is written. A proved loop has to end, and nothing says that an input does, so that the turns are counted down.
 fn read_all(
+    rt: &(impl Input + Print + Eprint),
     piece: &mut [u8],
     line: &mut [u8],
     frame: &mut [u8],
@@ -57,20 +65,25 @@ fn read_all(
     out: &mut [u8],
 ) -> usize
     requires { Buffers piece.old line.old frame.old room.old out.old }
-    ensures { IsPrefixLen result line.new }
+    ensures { result ≤ length line.new }
 {
+    let mut input = rt.reader();
     let mut held = 0;
     let mut turns = u64::MAX;
     while turns > 0 {
-        let got = libc::read(STDIN_FILENO, piece);
-        let count = io::count(got, piece);
+        let count = match input.read(piece) {
+            Ok(count) => count,
+            Err(_) => {
+                complain(rt, "bench: standard input: read failed");
+                0
+            }
+        };
         if count == 0 {
-            report_read(got);
             return held;
         }
         let progress = put_piece(&piece[..count], line, held, frame, room, out);
         let used = progress.used;
-        if !written(&out[..used]) {
+        if !written(rt, &out[..used]) {
             return 0;
         }
         held = progress.held;
@@ -79,20 +92,20 @@ fn read_all(
     held
 }
 
-// Says on standard error that a read failed. At the end of input none did.
-fn report_read(got: isize) {
-    if got < 0 {
-        io::write_all(STDERR_FILENO, b"bench: standard input: read failed\n");
-    }
+// Says what failed on standard error. Nothing can be done where that fails too.
+fn complain(rt: &impl Eprint, what: &str) {
+    let _ = rt.eprintln(what);
 }
 
 // Writes to standard output, and gives whether all was written; where not, standard error says so.
-fn written(text: &[u8]) -> bool {
-    if io::write_all(STDOUT_FILENO, text) {
-        return true;
+fn written(rt: &(impl Print + Eprint), text: &[u8]) -> bool {
+    match rt.write_all(text) {
+        Ok(()) => true,
+        Err(_) => {
+            complain(rt, "bench: standard output: write failed");
+            false
+        }
     }
-    io::write_all(STDERR_FILENO, b"bench: standard output: write failed\n");
-    false
 }
 
 // Puts what is said of the lines that end in this piece at the front of `out`, and holds what it begins of the next.
