@@ -1,5 +1,6 @@
 // Where the extensions of a chunk line and the trailer of a body stand, a byte at a time: what every reader of bodies asks.
 #![tactic(auto)]
+
 ghost use Rattle.std.specs.Prelude.{◌≡◌, cond, ◌&&◌, suc, ◌<◌, ◌≤◌, eqb};
 ghost use Rattle.framing.specs.helpers.Extensions.{ext_step, ext_ends, ext_live};
 ghost use Rattle.framing.specs.declared.TrailPos.TheVariants.{Name};
