@@ -1,5 +1,6 @@
 // Numbers as text: decimal and hexadecimal, without leading zeros, in capitals.
 #![tactic(auto)]
+
 ghost use Rattle.std.specs.Prelude.{◌≡◌, ◌+◌, ◌<◌, ◌≤◌, length};
 ghost use Rattle.numerals.specs.Numeral.{glyph as glyphOf, digits, numeral, width as width_of, put};
 
