@@ -60,7 +60,7 @@ fn items(source: &str, found: &mut Vec<Item>) {
         let line = lines[i];
         if let Some(words) = line.strip_prefix("//") {
             about.push(words.trim().to_string());
-        } else if line == "#[no_mangle]" {
+        } else if line == "#[unsafe(no_mangle)]" {
             exported = true;
         } else if let Some(rest) = line.strip_prefix("pub const ") {
             constant(rest, std::mem::take(&mut about), found);
@@ -275,7 +275,8 @@ fn raw(found: &[Item]) -> String {
 
 fn main() {
     let list = fs::read_to_string("crates.txt").unwrap_or_else(|_| fail("run it at the repository's root"));
-    let crates: Vec<&str> = list.lines().filter_map(|l| l.split(':').next()).filter(|name| name.starts_with("ffi")).collect();
+    let names = list.lines().filter_map(|l| l.split([':', ' ']).next());
+    let crates: Vec<&str> = names.filter(|name| name.starts_with("ffi")).collect();
     let (mut top, mut found) = (Vec::new(), Vec::new());
     items(&fs::read_to_string("crates/octets/src/lib.rt").unwrap_or_else(|_| fail("no octets")), &mut found);
     found.retain_mut(|item| match item {

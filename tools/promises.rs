@@ -13,7 +13,9 @@ fn sources(dir: &Path, found: &mut Vec<PathBuf>) {
     entries.sort();
     for path in entries {
         if path.is_dir() {
-            sources(&path, found);
+            if path.file_name().is_some_and(|name| name != "out") {
+                sources(&path, found);
+            }
         } else if path.extension().is_some_and(|e| e == "rt") {
             found.push(path);
         }

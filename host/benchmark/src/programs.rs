@@ -15,7 +15,7 @@ const DIGITS: usize = 16_384;
 const LINES: usize = 4_000;
 
 /// What `host/bench` has built, below the repository's root.
-const OURS: &str = "target/bin/bench";
+const OURS: &str = "crates/bench/out/bench";
 const PLAIN: &str = "target/host/plain_bench";
 const INPUT: &str = "target/host/bench.in";
 
@@ -83,7 +83,7 @@ pub fn print() {
     println!("The bench program on {lines} lines of {digits} hex digits, a whole body each:");
     println!("how many times as long ours takes as one in C, from its start to its end;");
     println!("medians of {ROUNDS} rounds, and quartiles.");
-    let missing = [(OURS, "run `rt check bench`"), (PLAIN, "there is no `cc`")];
+    let missing = [(OURS, "run `rt run` in crates/bench"), (PLAIN, "there is no `cc`")];
     if let Some((name, why)) = missing.into_iter().find(|(name, _)| !path(name).is_file()) {
         println!("skipped: {name} is missing, {why}");
         return;

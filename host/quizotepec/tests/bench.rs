@@ -17,8 +17,8 @@ const LINES: usize = 20_000;
 const LONG_LINES: usize = 1_000;
 
 fn program() -> PathBuf {
-    let path = PathBuf::from(env!("CARGO_MANIFEST_DIR")).join("../../target/bin/bench");
-    assert!(path.is_file(), "{} is missing: run `rt check bench` at the repository's root", path.display());
+    let path = PathBuf::from(env!("CARGO_MANIFEST_DIR")).join("../../crates/bench/out/bench");
+    assert!(path.is_file(), "{} is missing: run `rt run` in crates/bench", path.display());
     path
 }
 
