@@ -49,7 +49,8 @@ fn main() {
         read += 1;
         for (i, line) in fs::read_to_string(path).unwrap_or_default().lines().enumerate() {
             let length = line.chars().count();
-            if length > most {
+            // an import is one line, as `rt fmt` lays it out
+            if length > most && !line.starts_with("use ") && !line.starts_with("ghost use ") {
                 long += 1;
                 println!("{}:{}: {length} characters, above {most}", path.display(), i + 1);
             }

@@ -28,7 +28,7 @@ use Rattle.date.proofs.Forms.{one_way, one_of_three, any-of_three, Agree, said_s
 use Rattle.date.proofs.Forms.{rfc1123-full, asctime-full}
 use Rattle.date.proofs.ShortYears.{says-short-year}
 
--- What `read` answers (its promise is `reading y s`): the fields and the seconds of a well_formed date, or the refusal of the row that
+-- What `read` answers (its promise is `reading y s`): the fields and the seconds of a well-formed date, or the refusal of the row that
 -- applies first (9, then 13, then 1, then 3, then 4), and nothing else.
 pub answers : (y : ℕ) (s : List ℕ) (v : Verdict Date) → (reading y s ≡ v) ↔ Asked ((1632 ≤ y) × (y ≤ 9949)) (Answers (rules y) s) v
 answers y s =
@@ -88,7 +88,7 @@ module _ (y : ℕ) (s : List ℕ) (d : Date) (e : reading y s ≡ value d) where
       let year : d.fields.year ≡ full_year y (number x.0) = ap (λ (z : Date). z.fields.year) r.1 ∙ x.3 (full_year y) in
       (x.0, x.1, subst (Chosen y (number x.0)) (sym year) (chosen_year y (number x.0) (omega (arith, r.0.0)) x.2))
 
--- A well_formed date is judged by what its parts say.
+-- A well-formed date is judged by what its parts say.
 module _ (x : Said) where
   abbrev day_of_week : ℕ
   day_of_week = weekday (day_number x.fields.year x.fields.month x.fields.day)

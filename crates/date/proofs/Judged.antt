@@ -1,4 +1,4 @@
--- A well_formed date: what the calendar makes of it.
+-- A well-formed date: what the calendar makes of it.
 use Prim.Native.Nat.{ℕ}
 use native.Mathlib.Omega.{arith}
 use borrow.Author.Tests.{eq-eqb, ne_eqb}

@@ -204,7 +204,7 @@ fn read_tail(s: &[u8], day: usize, tail: &[u8], places: Places, present_year: u3
     }
 }
 
-// A well_formed date: no such date or time, a day name that disagrees with it, or the date.
+// A well-formed date: no such date or time, a day name that disagrees with it, or the date.
 fn judge(named: usize, fields: Fields) -> Reading
     ensures { verdict result ≡ judged named fields }
 {

@@ -24,14 +24,14 @@ one_way : T (deterministic? delta_seconds)
 unfolding digit?
 one_way = tt
 
--- "one or more digits": what `read` answers (its promise is `header rules s`): the seconds of a well_formed text, or the refusal of the row
--- that applies first (13, then 1 behind the longest beginning that some continuation makes well_formed), and nothing else.
+-- "one or more digits": what `read` answers (its promise is `header rules s`): the seconds of a well-formed text, or the refusal of the row
+-- that applies first (13, then 1 behind the longest beginning that some continuation makes well-formed), and nothing else.
 pub reading : (s : List ℕ) (v : Verdict Seconds) → (header rules s ≡ v) ↔ Answers rules s v
 reading = answered_exactly rules tt tt one_way
 
 -- "Delta-seconds above 2,147,483,647 shall answer 2,147,483,648 (RFC 2616 14.6) and say that it was capped, as no other does".
 module _ (s : List ℕ) (v : Seconds) (e : header rules s ≡ value v) where
-  -- it is well_formed, and its number is told
+  -- it is well-formed, and its number is told
   read_is : Matches delta_seconds s × (v ≡ seconds_of s)
   read_is = by_parts v ((reading s (value v)).0 e)
     where
@@ -50,7 +50,7 @@ module _ (s : List ℕ) (v : Seconds) (e : header rules s ≡ value v) where
       let m = ap (λ (w : Seconds). w.capped) read_is.1 in
       (λ t. c.0 (sym m ∙ t), λ h. m ∙ c.1 h)
 
--- "they never get refusal 2": each well_formed text that is not too long is read, however large its number is, and refusals are 13 and 1.
+-- "they never get refusal 2": each well-formed text that is not too long is read, however large its number is, and refusals are 13 and 1.
 unbroken : (s : List ℕ) → Sound rules s (length s)
 unbroken s = unlimited rules (λ k ps. refl) s (length s)
 

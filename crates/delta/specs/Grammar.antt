@@ -1,4 +1,4 @@
--- delta_seconds = 1*DIGIT (RFC 2616 3.3.2). "Delta-seconds above 2,147,483,647 shall answer 2,147,483,648 (RFC 2616 14.6) and say that it
+-- delta-seconds = 1*DIGIT (RFC 2616 3.3.2). "Delta-seconds above 2,147,483,647 shall answer 2,147,483,648 (RFC 2616 14.6) and say that it
 -- was capped": no number of seconds is refused.
 use Rattle.std.specs.Prelude.{ℕ, List, [], ◌∷◌}
 use Rattle.std.proofs.Math.Option.{none}

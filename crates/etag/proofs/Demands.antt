@@ -23,7 +23,7 @@ pub one_way : T (deterministic? entity_tag)
 unfolding lower text? escaped?
 one_way = tt
 
--- What `read` answers (its promise is `header rules s`): the value of a well_formed tag, or the refusal of the row that applies first,
+-- What `read` answers (its promise is `header rules s`): the value of a well-formed tag, or the refusal of the row that applies first,
 -- and nothing else. "optional `W/` in either case, then a quoted string": the grammar; "The place of 1 is the length of the longest
 -- beginning that some continuation, limits aside, makes well-formed": `Answers`.
 pub reading : (s : List ℕ) (v : Verdict Tag) → (header rules s ≡ v) ↔ Answers rules s v

@@ -1,4 +1,4 @@
--- The parts of a well_formed tag: the opaque bytes, and before them the mark of a weak one.
+-- The parts of a well-formed tag: the opaque bytes, and before them the mark of a weak one.
 use Prim.Native.Nat.{ℕ, suc}
 use mathlib.Core.Path.{◌≡◌, refl, ap, ap₂, subst, ◌∙◌}
 use mathlib.Core.Logic.{inl, inr}

@@ -1,4 +1,4 @@
--- entity_tag = [ weak ] opaque_tag, weak = "W/", opaque_tag = quoted-string (RFC 2616 3.11); the mark in either letter case.
+-- entity-tag = [ weak ] opaque-tag, weak = "W/", opaque-tag = quoted-string (RFC 2616 3.11); the mark in either letter case.
 use Rattle.std.specs.Prelude.{ℕ, true, false, List, [], ◌∷◌, length}
 use Rattle.std.proofs.Math.Option.{none}
 use Rattle.grammar.specs.Grammar.{Part, Grammar, empty, byte, ◌⨾◌, part, opt, spell}

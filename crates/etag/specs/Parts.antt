@@ -1,4 +1,4 @@
--- The parts of a well_formed tag, and its value; the theorems say that it has them.
+-- The parts of a well-formed tag, and its value; the theorems say that it has them.
 use Rattle.std.specs.Prelude.{ℕ, ◌≡◌, ◌⊎◌, true, false, List, [], ◌∷◌, ◌++◌, length}
 use Rattle.grammar.specs.Grammar.{Part}
 use Rattle.grammar.specs.Text.{bytes}

@@ -23,7 +23,7 @@ pub struct QzRange {
 pub struct QzRanges {
     pub number: u8,
     pub place: usize,
-    // the set is well_formed, and no range of it is left
+    // the set is well-formed, and no range of it is left
     pub unsatisfiable: bool,
     // how many ranges there are
     pub count: usize,

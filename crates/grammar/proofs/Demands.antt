@@ -57,7 +57,7 @@ module _ {L A : Type 0} (r : Rules L A)
   pub one_answer : (s : List ℕ) (v w : Verdict A) → Answers r s v → Answers r s w → v ≡ w
   one_answer s v w = Exact.only r fresh (deterministic_steady r.grammar fresh one_way) s v w
 
-  -- a well_formed text has its parts in one way only
+  -- a well-formed text has its parts in one way only
   pub one_parse : (s : List ℕ) (ps qs : List (Part L)) → Parses r.grammar 0 s ps → Parses r.grammar 0 s qs → ps ≡ qs
   one_parse s ps qs = Exact.one_parse r fresh (deterministic_steady r.grammar fresh one_way) s ps qs
 

@@ -3,11 +3,11 @@ use Rattle.std.specs.Prelude.{ℕ, ◌≤◌, List, ◌++◌, T, length, take}
 use Rattle.grammar.specs.Grammar.{Part, Grammar, Parses, bytes?}
 
 module _ {L : Type 0} where
-  -- the text s is well_formed
+  -- the text s is well-formed
   abbrev pub Matches : Grammar L → List ℕ → Type 0
   Matches g s = (ps : List (Part L)) × Parses g 0 s ps
 
-  -- some continuation, of bytes, makes the beginning p well_formed
+  -- some continuation, of bytes, makes the beginning p well-formed
   abbrev pub Live : Grammar L → List ℕ → Type 0
   Live g p = (t : List ℕ) × T (bytes? t) × Matches g (p ++ t)
 

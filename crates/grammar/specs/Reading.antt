@@ -15,7 +15,7 @@ value_limit = 8192
 pub data Limit : Type 0 where
   above crowded repeated deep unfit : Limit
 
--- The faults of a well_formed value as a whole: no such date or time, a day name that disagrees with the date.
+-- The faults of a well-formed value as a whole: no such date or time, a day name that disagrees with the date.
 pub data Fault : Type 0 where
   no-such-date wrong-day : Fault
 
@@ -31,7 +31,7 @@ abbrev pub fault_number : Fault → ℕ
 fault_number no-such-date = NO_SUCH_DATE
 fault_number wrong-day = WRONG_DAY_NAME
 
--- A kind of header value: what is well_formed; the limit that is passed at the byte at the place k, the parts through it being ps; the
+-- A kind of header value: what is well-formed; the limit that is passed at the byte at the place k, the parts through it being ps; the
 -- fault of the parts of a whole text; what they mean.
 pub record Rules (L A : Type 0) : Type 0 where
   pub grammar : Grammar L
@@ -48,7 +48,7 @@ parts_before n (c ∷ ps) =
     (parts_before n ps)
 
 module _ {L A : Type 0} (r : Rules L A) where
-  -- some continuation makes the beginning p well_formed, and ps are the parts as far as p holds them
+  -- some continuation makes the beginning p well-formed, and ps are the parts as far as p holds them
   abbrev pub SoFar : List ℕ → List (Part L) → Type 0
   SoFar p ps =
       (t : List ℕ) × (qs : List (Part L)) × T (bytes? t) × Parses r.grammar 0 (p ++ t) qs × (ps ≡ parts_before (length p) qs)

@@ -18,7 +18,7 @@ pub one_way : T (deterministic? url)
 unfolding lower digit? letter? hex? host? unreserved? path? query?
 one_way = tt
 
--- What `read` answers (its promise is `header rules s`): where the parts of a well_formed URL stand, or the refusal of the row that applies
+-- What `read` answers (its promise is `header rules s`): where the parts of a well-formed URL stand, or the refusal of the row that applies
 -- first, and nothing else.
 pub reading : (s : List ℕ) (v : Verdict Url) → (header rules s ≡ v) ↔ Answers rules s v
 reading = answered_exactly rules tt tt one_way

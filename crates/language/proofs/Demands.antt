@@ -27,7 +27,7 @@ one_way : T (deterministic? language)
 unfolding letter?
 one_way = tt
 
--- What `read` answers (its promise is `header rules s`): the value of a well_formed tag, or the refusal of the row that applies first,
+-- What `read` answers (its promise is `header rules s`): the value of a well-formed tag, or the refusal of the row that applies first,
 -- and nothing else. "parts of 1 to 8 letters joined by `-`": the grammar; "The place of 1 is the length of the longest beginning that
 -- some continuation, limits aside, makes well-formed": `Answers`.
 pub reading : (s : List ℕ) (v : Verdict Tag) → (header rules s ≡ v) ↔ Answers rules s v

@@ -1,4 +1,4 @@
--- The parts of a well_formed tag: the primary one, then subtags.
+-- The parts of a well-formed tag: the primary one, then subtags.
 use Prim.Native.Nat.{ℕ, zero, suc}
 use mathlib.Core.Path.{refl, sym, ap, subst, ◌∙◌}
 use mathlib.Core.List.{List, ◌∷◌, ◌++◌}

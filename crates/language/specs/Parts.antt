@@ -1,4 +1,4 @@
--- The parts of a well_formed tag, in order; the theorems say that it has them.
+-- The parts of a well-formed tag, in order; the theorems say that it has them.
 use Rattle.std.specs.Prelude.{◌≡◌, List, [], ◌∷◌}
 use Rattle.grammar.specs.Grammar.{Part}
 use Rattle.language.specs.Grammar.{Name, primary, subtag}

@@ -12,7 +12,7 @@ use Rattle.media.specs.Grammar.{Name, media_type, attributes, Media, media, rule
 use Rattle.media.specs.Parts.{MediaParts, part_places, attribute_places}
 use Rattle.media.proofs.Parts.{one_way, media-parts, media-attributes}
 
--- What `read` answers (its promise is `Answered s r`): where the parts of a well_formed media type stand, or the refusal of the row that
+-- What `read` answers (its promise is `Answered s r`): where the parts of a well-formed media type stand, or the refusal of the row that
 -- applies first, and nothing else. "token `/` token, then parameters: blanks (SP, HT), `;`, blanks, attribute, `=`, token or quoted
 -- string. No blank stands around `/` or `=`": the grammar.
 pub reading : (s : List ℕ) (v : Verdict Media) → (header rules s ≡ v) ↔ Answers rules s v

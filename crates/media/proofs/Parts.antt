@@ -1,4 +1,4 @@
--- The parts of a well_formed media type: type, subtype, then attribute and value in turn; the attributes by label and by position.
+-- The parts of a well-formed media type: type, subtype, then attribute and value in turn; the attributes by label and by position.
 use Prim.Native.Nat.{ℕ}
 use mathlib.Core.Path.{◌≡◌, refl, sym, ap, ap₂, subst, ◌∙◌}
 use mathlib.Core.Logic.{◌⊎◌, inl, inr}

@@ -1,4 +1,4 @@
--- media_type = type "/" subtype *( ";" parameter ), type = token, subtype = token (RFC 2616 3.7), parameter = attribute "=" value,
+-- media-type = type "/" subtype *( ";" parameter ), type = token, subtype = token (RFC 2616 3.7), parameter = attribute "=" value,
 -- attribute = token, value = token | quoted-string (RFC 2616 3.6); blanks stand around the semicolon only.
 use Rattle.std.specs.Prelude.{ℕ, Bool, true, false, cond, ◌&&◌, ◌||◌, List, [], ◌∷◌, ◌++◌, ltb, eqb, length, take, drop}
 use Prim.Native.Char.{code}

@@ -1,4 +1,4 @@
--- The parts of a well_formed media type, in order; the theorems say that it has them.
+-- The parts of a well-formed media type, in order; the theorems say that it has them.
 use Rattle.std.specs.Prelude.{ℕ, ◌≡◌, List, [], ◌∷◌, ◌⊎◌, length}
 use Rattle.grammar.specs.Grammar.{Part}
 use Rattle.media.specs.declared.Parameter.{Parameter}

@@ -56,12 +56,12 @@ same_setting-is = setting_is
 pub same-set-is : (ps qs : List Setting) → (same_set ps qs ≡ true) ↔ ((p : Setting) → has_setting p ps ≡ has_setting p qs)
 same-set-is = set_is
 
--- "Two types are equal when type, subtype and the set of parameters agree": both are well_formed, and what they mean agrees.
+-- "Two types are equal when type, subtype and the set of parameters agree": both are well-formed, and what they mean agrees.
 pub equal_when : (a b : List ℕ) → (equality a b ≡ outcome true)
     ↔ ((m : Meaning) × (n : Meaning) × (header meanings a ≡ value m) × (header meanings b ≡ value n) × Agree m n)
 equal_when = equality-is
 
--- Two that are well_formed are compared, whatever they are.
+-- Two that are well-formed are compared, whatever they are.
 pub compared : (a b : List ℕ) (m n : Meaning) → header meanings a ≡ value m → header meanings b ≡ value n
     → equality a b ≡ outcome (same_meaning m n)
 compared a b m n = compare-read same_meaning (header meanings a) (header meanings b) m n

@@ -18,7 +18,7 @@ use Rattle.products.proofs.Wording.{products-items, items-parts}
 use Rattle.products.proofs.Depth.{items-deepest}
 use Rattle.products.proofs.Limit.{read-within}
 
--- What `read` answers (its promise is `header rules s`): the numbers of a well_formed text, or the refusal of the row that applies first,
+-- What `read` answers (its promise is `header rules s`): the numbers of a well-formed text, or the refusal of the row that applies first,
 -- and nothing else.
 pub reading : (s : List ℕ) (v : Verdict Products) → (header rules s ≡ v) ↔ Answers rules s v
 reading = answered_exactly rules tt tt one_way
@@ -46,7 +46,7 @@ counts s ps v {k} w e =
       is_deepest = λ d. (λ g. (items-deepest w d).0 (sym f ∙ g), λ h. f ∙ (items-deepest w d).1 h);
     }
 
--- "A comment may hold comments, to eight levels": a well_formed text of at most 8,192 bytes is read just where its deepest level is at most
+-- "A comment may hold comments, to eight levels": a well-formed text of at most 8,192 bytes is read just where its deepest level is at most
 -- eight.
 pub eight_levels : (s : List ℕ) (ps : List (Part Name)) {k : Kind} (w : Items k 0 s ps) (d : ℕ) → Deepest w d → length s ≤ value_limit
     → ((v : Products) × (header rules s ≡ G.value v)) ↔ (d ≤ level_limit)

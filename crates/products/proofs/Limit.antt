@@ -1,4 +1,4 @@
--- A well_formed text breaks no limit just where its deepest level is at most eight.
+-- A well-formed text breaks no limit just where its deepest level is at most eight.
 use Prim.Native.Nat.{ℕ, zero, suc, ◌-◌, ◌≤◌, ◌<◌, max}
 use native.Mathlib.Omega.{arith}
 use borrow.Author.Tests.{lt-ltb, le-ltb, ltb-true, ltb-false, leb-true, leb-false}

@@ -16,8 +16,8 @@ one_way : T (deterministic? qvalue)
 unfolding digit?
 one_way = tt
 
--- What `read` answers (its promise is `header rules s`): the thousandths of a well_formed text, or the refusal of the row that applies
--- first (13, then 1 behind the longest beginning that some continuation makes well_formed), and nothing else.
+-- What `read` answers (its promise is `header rules s`): the thousandths of a well-formed text, or the refusal of the row that applies
+-- first (13, then 1 behind the longest beginning that some continuation makes well-formed), and nothing else.
 pub reading : (s : List ℕ) (v : Verdict ℕ) → (header rules s ≡ v) ↔ Answers rules s v
 reading = answered_exactly rules tt tt one_way
 

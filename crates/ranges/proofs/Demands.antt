@@ -30,7 +30,7 @@ use Rattle.ranges.proofs.Exact.{one_way, all-forward, all-few, none_passed, all_
 use Rattle.ranges.proofs.Meaning.{covered, each_in, serves}
 use Rattle.ranges.proofs.Parts.{standing}
 
--- What `read` answers (its promise is `Answered n s r`): the ranges of a well_formed set, or the refusal of the row that applies first (9,
+-- What `read` answers (its promise is `Answered n s r`): the ranges of a well-formed set, or the refusal of the row that applies first (9,
 -- then 13, then the lowest place among 1 and 10), and nothing else. A last below its first is one of the rules for s (`forward`).
 pub answers : (n : ℕ) (s : List ℕ) (v : Verdict Ranges) → (reading n s ≡ v) ↔ Asked (n ≤ 9223372036854775807) (Answers (rules n s) s) v
 answers n s =
@@ -52,7 +52,7 @@ whatever_follows n p u k small e off short q =
         go true = refl
         go false = refl
 
--- "A last below its first, once its digits end, is malformed at its last digit, whatever follows.": p is a well_formed set whose last
+-- "A last below its first, once its digits end, is malformed at its last digit, whatever follows.": p is a well-formed set whose last
 -- element, behind fewer than 16 others without that fault, is backward, and u is whatever follows, no digit more.
 pub backward-refused : (n : ℕ) (p u : List ℕ) (ps : List (Part Name)) (xs : List Element) (first last : ℕ) → n ≤ 9223372036854775807
     → Parses byte_ranges 0 p ps → elements capped ps ≡ xs ++ Closed first last ∷ [] → last < first → Each Forward xs → length xs < 16
@@ -62,7 +62,7 @@ backward-refused n p u ps xs first last small parse is below all few off short =
     ((judged_exactly (plain_rules n) tt tt one_way forward p (refused MALFORMED (length p - 1))).1
     (refused-last n p ps parse xs first last is below all few (omega (arith, length-append p u))))
 
--- A well_formed set has two parts for each element: first and last, or sign and suffix.
+-- A well-formed set has two parts for each element: first and last, or sign and suffix.
 pub parts_in_turn : (s : List ℕ) (ps : List (Part Name)) → Parses byte_ranges 0 s ps → InTurn ps
 parts_in_turn s ps p = (standing s ps p).turns
 
@@ -128,7 +128,7 @@ module _ (n : ℕ) (s : List ℕ) (v : Ranges) (e : reading n s ≡ value v) (ps
           absurd (none u.first
           ((every_byte u.first).0 (subst (Some (λ r. Covers r u.first)) (sym f) (inl (omega arith, here.0.0)))))
 
--- "up to 16", "A last below its first .. is malformed": a well_formed set is read exactly when it has at most 16 elements and no last,
+-- "up to 16", "A last below its first .. is malformed": a well-formed set is read exactly when it has at most 16 elements and no last,
 -- capped, is below its first, capped.
 module _ (n : ℕ) (s : List ℕ) (small : n ≤ 9223372036854775807) (short : length s ≤ value_limit)
     (ps : List (Part Name)) (p : Parses byte_ranges 0 s ps) where

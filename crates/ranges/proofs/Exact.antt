@@ -1,4 +1,4 @@
--- A well_formed set is read exactly when it has at most 16 elements and no last position is below its first.
+-- A well-formed set is read exactly when it has at most 16 elements and no last position is below its first.
 use Prim.Native.Nat.{ℕ, zero, suc, ◌+◌, ◌-◌, ◌≤◌, ◌<◌}
 use native.Mathlib.Omega.{arith}
 use borrow.Author.Tests.{le-ltb, ltb-true, ltb-false}

@@ -1,4 +1,4 @@
--- The parts of a well_formed set: two for each element, one behind the other, each as far as bytes go on with it.
+-- The parts of a well-formed set: two for each element, one behind the other, each as far as bytes go on with it.
 use Prim.Native.Nat.{ℕ, zero, suc, ◌<◌}
 use native.Mathlib.Omega.{arith}
 use borrow.Author.Tests.{eqb-true}

@@ -31,7 +31,7 @@ pub type Table = [Range; ELEMENT_LIMIT];
 pub enum Outcome {
     // So many ranges, at least one.
     Satisfiable(usize),
-    // The set is well_formed, and no range of it is left.
+    // The set is well-formed, and no range of it is left.
     Unsatisfiable,
     Refused(Refusal),
 }

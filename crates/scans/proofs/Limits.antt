@@ -67,7 +67,7 @@ module _ {L : Type 0} (number? : L → Bool) (limit : ℕ) where
       passed true e = refl
       passed false e = let z : ◌≡◌ {A = ℕ} 0 1 = cc in absurd (omega arith)
 
--- ## A well_formed text whose numbers are at most the limit breaks no limit
+-- ## A well-formed text whose numbers are at most the limit breaks no limit
 
 -- digits only make a number larger
 pub digits-grow : (n : ℕ) (t : List ℕ) → n ≤ number_after n t

@@ -1,4 +1,4 @@
--- The normal form of a page as a URL taken apart: it is well_formed, and means the page.
+-- The normal form of a page as a URL taken apart: it is well-formed, and means the page.
 use Prim.Native.Nat.{ℕ, ◌+◌, ◌≤◌, ◌<◌}
 use native.Mathlib.Omega.{arith}
 use borrow.Author.Tests.{eqb-true, le-ltb, ltb-true}

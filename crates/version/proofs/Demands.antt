@@ -30,7 +30,7 @@ one_way : T (deterministic? version)
 unfolding lower digit?
 one_way = tt
 
--- What `Version::read` answers (its promise is `header rules s`): the value of a well_formed text, or the refusal of the row that
+-- What `Version::read` answers (its promise is `header rules s`): the value of a well-formed text, or the refusal of the row that
 -- applies first, and nothing else.
 pub reading : (s : List ℕ) (v : Verdict Version) → (header rules s ≡ v) ↔ Answers rules s v
 reading = answered_exactly rules tt tt one_way

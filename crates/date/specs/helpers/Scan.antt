@@ -68,7 +68,7 @@ tail_of s at l m n =
 unfoldable pub month_then : (shape s : List ℕ) (at : ℕ) → Tail
 month_then w s at = tail_of s at (length w) (first_name 1 month_names (drop at s)) (fitting w (drop (at + 3) s))
 
--- the answer to a well_formed date
+-- the answer to a well-formed date
 unfoldable pub judged : (named : ℕ) → Fields → Verdict Date
 judged k f = unless_fault (fault_of k f) (value_of f)
 
