@@ -1,5 +1,6 @@
 // Delta-seconds: RFC 2616 3.3.2.
 #![tactic(auto)]
+
 ghost use Rattle.std.specs.Prelude.{◌≡◌};
 ghost use Rattle.grammar.specs.helpers.Judge.{header};
 ghost use Rattle.delta.specs.Grammar.{rules};
