@@ -5,7 +5,7 @@ use Prim.Native.Nat.{ℕ, suc, ◌+◌, ◌-◌, ◌*◌, ◌<◌, ◌≤◌, mi
 use native.Mathlib.Numerals.{add-one}
 use native.Mathlib.Omega.{arith}
 use lib.ListN.{length, get_or, take, drop, set, length-append, length-drop}
-use lib.Seq.{take-add, take_at, drop_at, take-take, take-append-le, drop-drop}
+use lib.Seq.{take-add, drop_at, take-take, take-append-le, drop-drop}
 use lib.Seq.{drop-append-add, take-suc, drop-cons, set_at, take_all, length-take-le}
 use lib.ListN.{drop_of_length-le}
 use Rattle.numerals.specs.Numeral.{put}

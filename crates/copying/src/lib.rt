@@ -1,5 +1,6 @@
 // Copies bytes by blocks.
 #![tactic(auto)]
+
 ghost use Rattle.std.specs.Prelude.{◌≡◌, ◌++◌, ◌+◌, ◌<◌, ◌≤◌, length, drop};
 ghost use Rattle.numerals.specs.Numeral.{put};
 ghost use Rattle.copying.specs.helpers.Runs.{Front, block_at};
