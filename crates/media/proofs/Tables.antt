@@ -5,11 +5,11 @@ use native.Mathlib.Numerals.{add-one}
 use mathlib.Core.Path.{◌≡◌, sym, ap₂, subst, ◌∙◌}
 use mathlib.Core.Bool.{Bool, true, false}
 use mathlib.Core.List.{List, [], ◌∷◌}
-use lib.ListN.{length, take, drop, get_or, length-take, drop_of_length-le}
+use lib.ListN.{length, take, drop, get_or, drop_of_length-le}
 use lib.Seq.{drop-cons, get_or-take}
 use Rattle.octets.specs.Case.{alike}
 use Rattle.media.specs.declared.Parameter.{Parameter}
-use Rattle.media.specs.Grammar.{has_name, parameter_limit, part_at}
+use Rattle.media.specs.Grammar.{has_name, part_at}
 use Rattle.media.specs.Reading.{unused}
 use Rattle.media.specs.Places.{Placed, PlacedParameter}
 use Rattle.media.specs.helpers.Places.{names_at, PlacedTable}
@@ -28,10 +28,6 @@ module _ {s : List ℕ} {n : ℕ} {u : List Parameter} (w : PlacedTable s n u) (
 
   abbrev behind : List Parameter
   behind = drop (i + 1) (take n u)
-
-  -- of a table of 16
-  pub entry-below : length u ≡ parameter_limit → i < n → i < parameter_limit
-  entry-below e h = omega (arith, w.full, length-take n u)
 
   pub none_left : n ≤ i → left ≡ []
   none_left h = drop_of_length-le (take n u) {i = i} (omega (arith, w.full))

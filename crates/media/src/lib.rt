@@ -1,5 +1,6 @@
 // Media types: RFC 2616 3.7, with the parameters of 3.6.
 #![tactic(auto)]
+
 ghost use Rattle.std.specs.Prelude.{◌≡◌, [], ◌≤◌, ◌<◌, ◌+◌, length, take};
 ghost use Rattle.grammar.specs.helpers.Scans.{slice};
 ghost use Rattle.octets.specs.Case.{alike};
