@@ -1,7 +1,7 @@
 -- A text of a class and of escapes, as a part that has begun, against its grammar.
-use Rattle.std.proofs.Common.{◌≡◌, ℕ, zero, suc, ◌+◌, ◌-◌, ◌<◌, ◌≤◌, Bool, true, false, eqb, ltb, List, [], ◌∷◌, ◌++◌, length, get_or, sym, refl, ap, ◌∙◌, subst, true≢false, arith, ltb-false, ltb-true, ne_eqb}
+use Rattle.std.proofs.Common.{◌≡◌, ℕ, zero, suc, ◌+◌, ◌<◌, ◌≤◌, Bool, true, false, eqb, ltb, List, [], ◌∷◌, ◌++◌, length, get_or, sym, refl, ap, ◌∙◌, subst, true≢false, arith, ltb-false, ltb-true, ne_eqb}
 use mathlib.Core.Option.{none}
-use Rattle.grammar.specs.Grammar.{Class, Part, Grammar, void, empty, byte, ◌⨾◌, rest, grown}
+use Rattle.grammar.specs.Grammar.{Class, Part, Grammar, void, byte, ◌⨾◌, rest, grown}
 use Rattle.grammar.specs.helpers.Derivative.{live, deriv, ends, then, seq, during}
 use Rattle.grammar.specs.Reading.{Rules, Verdict, refused}
 use Rattle.grammar.specs.helpers.Judge.{held}

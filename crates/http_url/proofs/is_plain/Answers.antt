@@ -1,11 +1,10 @@
 -- `http_url::is_plain` meets its contract: computed over all bytes, one that becomes one of a to z is in a path.
-use Rattle.std.proofs.Common.{◌≡◌, ℕ, ◌+◌, ◌%◌, ◌<◌, ◌≤◌, Bool, true, cond, leb, sym, refl, ap, ◌∙◌, true≢false, arith, rules, le-leb}
+use Rattle.std.proofs.Common.{◌≡◌, ℕ, ◌+◌, ◌%◌, ◌<◌, ◌≤◌, Bool, true, cond, leb, refl, ap, ◌∙◌, arith, le-leb}
 use Rattle.grammar.specs.Grammar.{lower}
 use Rattle.octets.specs.Bytes.{within, digit?, letter?}
 use Rattle.octets.proofs.Spans.{by_range}
 use Rattle.http_url.specs.Bytes.{path?, unreserved?}
-use Rattle.http_url.proofs.is_plain.Statement.{statement}
-use Rattle.http_url.proofs.is_plain.Tie as tie
+use Rattle.http_url.proofs.is_plain.Goals as goal
 
 small-letter : ℕ → ℕ
 small-letter b = lower (cond (within 38 59 b) 97 b)
@@ -22,21 +21,10 @@ plain-path b n s z h k =
     chosen n (path? b) (ap (λ (m : ℕ). cond (leb 97 m) (cond (leb m 122) (path? b) true) true) z
     ∙ by_range in_path (λ (m : ℕ). true) 0 256 refl b (omega arith) (omega arith)) h k
 
-returns : tie.Need-returns
+pub returns-then-wrapping_sub_u8-lt26 : goal.returns-then-wrapping_sub_u8-lt26
 unfolding small-letter
-returns c e =
-    let l = c.before.before.lower-case in
-    let f = c.before.before.before.folded in
-    let b = c.before.before.before.before.args.b in
-    let w : (c.before.wrapping-sub-u8.result + 97) % 256 ≡ l.result = c.before.wrapping-sub-u8.ensures in
-    plain-path b l.result (omega arith) (l.ensures ∙ ap lower f.ensures) (omega arith) (omega arith)
-
-pub is-plain-spec : {M : Type 1} → statement M
-is-plain-spec =
-    tie.close
-    (tie.spec
-    (λ c κs. search rules)
-    (λ c κs. search rules)
-    (λ c κs. search rules)
-    returns
-    (λ c e. absurd (true≢false (sym e))))
+returns-then-wrapping_sub_u8-lt26 c e =
+    let l = c.lower_case in
+    let b = c.args.b in
+    let w : (c.wrapping_sub_u8.result + 97) % 256 ≡ l.result = c.wrapping_sub_u8.ensures.value in
+    plain-path b l.result (omega arith) (l.ensures ∙ ap lower c.folded.ensures) (omega arith) (omega arith)
