@@ -10,7 +10,7 @@ use borrow.Author.Tests.{le-leb, lt-leb, leb-true, leb-false}
 use Rattle.numerals.specs.Numeral as Numeral
 use Rattle.numerals.proofs.Digits.{split, at_true, at-false, put-fits, put-short}
 use Rattle.copying.proofs.Runs.{put_all}
-use Rattle.text.specs.Placing.{fits, placed, behind}
+use Rattle.text.specs.Placing.{placed, behind}
 
 module _ (old : List ℕ) (at : ℕ) (xs : List ℕ) where
   pub placed-fits : at + length xs ≤ length old → placed old at xs ≡ take at old ++ (xs ++ drop (at + length xs) old)

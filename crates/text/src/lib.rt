@@ -1,5 +1,6 @@
 // Bytes and numbers put at a place of lent output.
 #![tactic(auto)]
+
 ghost use Rattle.std.specs.Prelude.{◌≡◌};
 ghost use Rattle.numerals.specs.Numeral.{numeral};
 ghost use Rattle.text.specs.Placing.{placed, behind};
