@@ -1,5 +1,6 @@
 // What the next byte of a body comes to, from any position: the machine's step as code, for readers that go a byte at a time.
 #![tactic(auto)]
+
 ghost use Rattle.std.specs.Prelude.{◌≡◌, cond, ◌&&◌, ℕ, suc, ◌+◌, ◌*◌, ◌≤◌, eqb, leb};
 ghost use Rattle.framing.specs.Grammar.{LINE_LIMIT as LINE, TRAILER_LIMIT as TRAILER};
 ghost use Rattle.framing.specs.declared.LinePos.TheVariants.{Size};

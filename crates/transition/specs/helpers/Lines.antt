@@ -2,7 +2,6 @@
 use Rattle.std.specs.Prelude.{Bool, true, false, cond, ℕ, suc, eqb}
 use Rattle.std.proofs.Math.Option.{none, some}
 use Rattle.framing.specs.declared.ExtPos.{ExtPos}
-use Rattle.framing.specs.declared.ExtPos.TheVariants as ExtPos
 use Rattle.framing.specs.declared.LinePos.{LinePos}
 use Rattle.framing.specs.declared.LinePos.TheVariants.{First, Size, Ext}
 use Rattle.framing.specs.declared.State.{State}
