@@ -1,5 +1,6 @@
 // Quality values read: RFC 2616 3.9.
 #![tactic(auto)]
+
 ghost use Rattle.std.specs.Prelude.{◌≡◌, true, ◌≤◌};
 ghost use Rattle.grammar.specs.helpers.Judge.{header};
 ghost use Rattle.octets.specs.Bytes.{digit?};
