@@ -2,11 +2,9 @@
 use mathlib.Core.Path.{◌≡◌, refl, ap}
 use Prim.Native.Nat.{ℕ}
 use Rattle.framing.specs.declared.ExtPos.{ExtPos}
-use Rattle.framing.specs.declared.ExtPos.TheVariants as ExtPos
 use Rattle.framing.specs.declared.LinePos.{LinePos}
 use Rattle.framing.specs.declared.LinePos.TheVariants.{First, Size, Ext}
 use Rattle.framing.specs.declared.TrailPos.{TrailPos}
-use Rattle.framing.specs.declared.TrailPos.TheVariants as TrailPos
 use Rattle.framing.specs.declared.State.{State}
 use Rattle.framing.specs.declared.State.TheVariants.{Line, LineFeed, Data, DataCr, DataLf, Trail, EndLf, Done, Dead}
 use Rattle.position_numbers.specs.Numbers.{ext_number, trail_number, name_of, numbers_of, line_of, trail_of, place_of}

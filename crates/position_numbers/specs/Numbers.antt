@@ -1,11 +1,9 @@
 -- Where a body stands as numbers, and back. What the numbers are is said in src/lib.rt.
 use Rattle.std.specs.Prelude.{ℕ, zero, suc, List, [], ◌∷◌}
 use Rattle.framing.specs.declared.ExtPos.{ExtPos}
-use Rattle.framing.specs.declared.ExtPos.TheVariants as ExtPos
 use Rattle.framing.specs.declared.LinePos.{LinePos}
 use Rattle.framing.specs.declared.LinePos.TheVariants.{First, Size, Ext}
 use Rattle.framing.specs.declared.TrailPos.{TrailPos}
-use Rattle.framing.specs.declared.TrailPos.TheVariants as TrailPos
 use Rattle.framing.specs.declared.State.{State}
 use Rattle.framing.specs.declared.State.TheVariants.{Line, LineFeed, Data, DataCr, DataLf, Trail, EndLf, Done, Dead}
 use Rattle.position_numbers.specs.declared.Numbers.{Numbers}

@@ -1,5 +1,6 @@
 // Where a body stands as numbers, and back: for whoever keeps a position outside.
 #![tactic(auto)]
+
 ghost use Rattle.std.specs.Prelude.{◌≡◌};
 ghost use Rattle.position_numbers.specs.Numbers.{ext_number, trail_number, name_of, line_numbers, trail_numbers};
 ghost use Rattle.position_numbers.specs.Numbers.{as_numbers, numbers_of};
