@@ -4,21 +4,17 @@ use native.Mathlib.Omega.{arith}
 use borrow.Author.Tests.{eq-eqb, ne_eqb}
 use mathlib.Core.Path.{◌≡◌, refl, sym, ap, ◌∙◌}
 use mathlib.Core.Bool.{Bool, true, false, cond}
-use mathlib.Core.List.{List, [], ◌∷◌}
+use mathlib.Core.List.{List}
 use mathlib.Core.Option.{Option, none, some}
 use lib.Dec.{eqb}
 use lib.IntN.{ℤ, pos, negsuc}
 use mir.Syntax.{w64}
 use mir.Val.{SFits, to_z, of_z}
 use mir.Facts.{to_z-of_z}
-use denote.Enum.Declared.{tag_of}
-use types.Run.{OneOf, miss}
-use Rattle.calendar.specs.contracts.Located.{the_type}
 use Rattle.grammar.specs.Reading.{Fault, value, refused, no-such-date, wrong-day, Answers, reads}
 use Rattle.grammar.specs.Arguments.{Asked, in_range as argument-in-range}
 use Rattle.grammar.specs.helpers.Judge.{unless_fault}
 use Rattle.calendar.specs.declared.Fields.{Fields}
-use Rattle.calendar.specs.declared.Located.{Located}
 use Rattle.calendar.specs.declared.Located.TheVariants.{At, Nowhere}
 use Rattle.calendar.specs.Gregorian as Gregorian
 use Rattle.calendar.specs.Gregorian.{day_number, exists?}
@@ -29,11 +25,6 @@ use Rattle.date.specs.declared.Date.{Date}
 use Rattle.date.specs.Years.{PresentYear, full_year}
 use Rattle.date.specs.Grammar.{fault_of, said, value_of, rules}
 use Rattle.date.specs.helpers.Scan.{judged}
-
--- a match on the calendar's answer: its first arm
-pub is_nowhere : (l : Located) → OneOf (1 ∷ []) (tag_of the_type l) → l ≡ Nowhere
-is_nowhere (At s w) h = absurd (miss (1 ∷ []) 0 tt h)
-is_nowhere Nowhere h = refl
 
 range-fits : (s : ℤ) → in_range? s ≡ true → SFits w64 s
 range-fits (pos n) e = record { sfits = omega (arith, late n e) }

@@ -1,5 +1,6 @@
 // HTTP dates: RFC 2616 3.3.1, and 19.3 for years of two digits.
 #![tactic(auto)]
+
 ghost use Rattle.std.specs.Prelude.{◌≡◌, ◌+◌, ◌-◌, ◌≤◌, ◌<◌, length, drop};
 ghost use Rattle.grammar.specs.helpers.Judge.{header};
 ghost use Rattle.grammar.specs.helpers.Scans.{slice};
