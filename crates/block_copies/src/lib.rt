@@ -1,5 +1,6 @@
 // Copies runs of one to four blocks of 16 bytes with no branch that asks how many.
 #![tactic(auto)]
+
 ghost use Rattle.std.specs.Prelude.{◌≡◌, ◌+◌, ◌≤◌, length};
 ghost use Rattle.numerals.specs.Numeral.{put};
 ghost use Rattle.copying.specs.helpers.Runs.{block_at};
