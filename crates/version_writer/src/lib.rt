@@ -1,5 +1,6 @@
 // HTTP versions written from their two numbers: RFC 2616 3.1.
 #![tactic(auto)]
+
 ghost use Rattle.std.specs.Prelude.{◌≡◌, false, ◌++◌, ◌≤◌, length, drop};
 ghost use Rattle.octets.specs.Writing.{written};
 ghost use Rattle.version_writer.specs.Writing.{numbers_text, numbers_too_large, numbers_writing, numbers_output};
