@@ -1,5 +1,6 @@
 // Language tags: RFC 2616 3.10.
 #![tactic(auto)]
+
 ghost use Rattle.std.specs.Prelude.{◌≡◌};
 ghost use Rattle.grammar.specs.helpers.Judge.{header};
 ghost use Rattle.octets.specs.Comparing.{comparison};
