@@ -1,5 +1,6 @@
 // The `Content-Range` value of one range written: RFC 2616 14.16.
 #![tactic(auto)]
+
 ghost use Rattle.std.specs.Prelude.{◌≡◌, ◌++◌, ◌≤◌, length, drop};
 ghost use Rattle.octets.specs.Writing.{written};
 ghost use Rattle.content_range_writer.specs.Writing.{InRange, content_range_text, content_range_writing, content_range_output};
