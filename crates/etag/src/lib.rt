@@ -1,5 +1,6 @@
 // Entity tags read: RFC 2616 3.11.
 #![tactic(auto)]
+
 ghost use Rattle.std.specs.Prelude.{◌≡◌};
 ghost use Rattle.grammar.specs.helpers.Judge.{header};
 ghost use Rattle.scans.specs.helpers.Words.{agreeing};
