@@ -1,5 +1,5 @@
 -- A well-formed set is read exactly when it has at most 16 elements and no last position is below its first.
-use Prim.Native.Nat.{ℕ, zero, suc, ◌+◌, ◌-◌, ◌≤◌, ◌<◌}
+use Prim.Native.Nat.{ℕ, zero, suc, ◌-◌, ◌≤◌, ◌<◌}
 use native.Mathlib.Omega.{arith}
 use borrow.Author.Tests.{le-ltb, ltb-true, ltb-false}
 use mathlib.Core.Path.{◌≡◌, refl, sym, ap, subst, ◌∙◌}
@@ -19,7 +19,7 @@ use Rattle.grammar.proofs.Longest.{past-length}
 use Rattle.grammar.proofs.Order.{Laid, ends-inside, passed_with, passes_with, Fits, fits-of, never-unfit}
 use Rattle.octets.specs.Bytes.{digit?, blank?}
 use Rattle.ranges.specs.Meaning.{Each, Forward}
-use Rattle.ranges.specs.Grammar.{Name, last, opens?, last?, capped, positions, element_of, elements, opened, backward, ends_backward}
+use Rattle.ranges.specs.Grammar.{Name, opens?, last?, capped, positions, element_of, elements, opened, backward, ends_backward}
 use Rattle.ranges.specs.Grammar.{byte_ranges, element_limit, limit, forward, plain_rules, rules}
 use Rattle.ranges.specs.Parts.{ElementParts, InTurn}
 use Rattle.ranges.proofs.Limits.{backward-last}

@@ -1,11 +1,9 @@
 -- A number as it is read: the one decimal reading, with the largest length as its limit and as its cap.
 use Prim.Native.Nat.{ℕ}
-use mathlib.Core.Path.{◌≡◌, refl, sym, ap, ◌∙◌}
+use mathlib.Core.Path.{◌≡◌, sym, ap, ◌∙◌}
 use mathlib.Core.Bool.{true, false}
-use mathlib.Core.List.{List, [], ◌∷◌}
+use mathlib.Core.List.{List}
 use mathlib.Core.Option.{some}
-use types.Run.{OneOf, miss}
-use denote.Enum.Declared.{tag_of}
 use Rattle.octets.specs.Bytes.{digit?}
 use Rattle.octets.specs.Numbers.{Capped, length_limit}
 use Rattle.scans.specs.declared.Decimal.{Decimal}
@@ -14,9 +12,6 @@ use Rattle.scans.specs.helpers.Decimals.{decimal_at, with_cap, capped_at}
 use Rattle.scans.specs.helpers.Runs.{run_end}
 use Rattle.scans.proofs.Caps.{caps, capped-of}
 use Rattle.scans.proofs.Scans.{missing_of}
-use Rattle.ranges.specs.declared.Number.{Number}
-use Rattle.ranges.specs.declared.Number.TheVariants.{Digits, Missing}
-use Rattle.ranges.specs.contracts.Number.{the_type}
 use Rattle.ranges.specs.helpers.Scan.{DigitsAt}
 
 module _ (s : List ℕ) (i : ℕ) where
@@ -36,8 +31,3 @@ module _ (s : List ℕ) (i : ℕ) where
 
   pub none : decimal_at length_limit s i ≡ D.Missing → run_end digit? s i ≡ i
   none d = missing_of length_limit s i d
-
--- a match on the answer: its last arm
-pub is_missing : (r : Number) → OneOf (1 ∷ []) (tag_of the_type r) → r ≡ Missing
-is_missing (Digits v e) h = absurd (miss (1 ∷ []) 0 tt h)
-is_missing Missing h = refl

@@ -1,5 +1,6 @@
 // Byte ranges: RFC 2616 14.35.1, read and resolved against the length of an entity.
 #![tactic(auto)]
+
 ghost use Rattle.std.specs.Prelude.{◌≡◌};
 ghost use Rattle.ranges.specs.Meaning.{begin, end};
 ghost use Rattle.ranges.specs.Reading.{Answered, refused_reading};
