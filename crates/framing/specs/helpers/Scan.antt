@@ -53,7 +53,7 @@ first test (n ∷ ls) = cond (test n) (some n) (first test ls)
 
 -- a live state: a broken limit, then the body's end
 abbrev pub verdict_of : {E : Type 0} → Option ℕ → Option E → Option (Verdict E)
-verdict_of (some n) done = some (refusal n)
+verdict_of (some n) _ = some (refusal n)
 verdict_of none (some e) = some (ended e)
 verdict_of none none = none
 
