@@ -1,5 +1,6 @@
 // Quality values written: RFC 2616 3.9.
 #![tactic(auto)]
+
 ghost use Rattle.std.specs.Prelude.{◌≡◌, ◌++◌, ◌≤◌, length, drop};
 ghost use Rattle.octets.specs.Writing.{written};
 ghost use Rattle.qvalue_writer.specs.Writing.{last_digit, qvalue_text, qvalue_writing, qvalue_output};
