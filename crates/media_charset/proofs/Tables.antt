@@ -1,9 +1,10 @@
 -- The first n entries of a table, one at a time: the charset.
 use Prim.Native.Nat.{ℕ, ◌+◌, ◌≤◌, ◌<◌}
+use native.Mathlib.Omega.{arith}
 use mathlib.Core.Path.{◌≡◌, refl, sym, ap, ◌∙◌}
-use mathlib.Core.Bool.{Bool, true, false, not, true≢false}
+use mathlib.Core.Bool.{Bool, true, false, true≢false}
 use mathlib.Core.List.{List, []}
-use lib.ListN.{length, take, drop, get_or}
+use lib.ListN.{length, take, drop, get_or, length-take}
 use Rattle.grammar.specs.Reading.{Verdict, value, refused}
 use Rattle.grammar.specs.helpers.Judge.{header}
 use Rattle.octets.specs.Case.{alike}
@@ -28,6 +29,10 @@ module _ {s : List ℕ} {n : ℕ} {u : List Parameter} (w : PlacedTable s n u) (
   abbrev behind : List Parameter
   behind = drop (i + 1) (take n u)
 
+  -- of a table of 16
+  pub entry-below : length u ≡ parameter_limit → i < n → i < parameter_limit
+  entry-below e h = omega (arith, w.full, length-take n u)
+
   pub not-stated : (other : Effective) → n ≤ i → other ≡ stated_at s other left
   not-stated other h = sym (rw (none_left w i h))
 
@@ -41,16 +46,16 @@ module _ {s : List ℕ} {n : ℕ} {u : List Parameter} (w : PlacedTable s n u) (
 
 -- ## Without the parameter
 
-pub not_assumed : (a : Bool) (type : List ℕ) → not a ≡ true → no_charset ≡ default_charset a type
-not_assumed true type h = absurd (true≢false (sym h))
+pub not_assumed : (a : Bool) (type : List ℕ) → a ≡ false → no_charset ≡ default_charset a type
+not_assumed true type h = absurd (true≢false h)
 not_assumed false type h = refl
 
 module _ (t : Bool) (type : List ℕ) (e : t ≡ alike type text_type) where
-  pub text_default : (a : Bool) → not a ≡ false → t ≡ true → latin_1 ≡ default_charset a type
+  pub text_default : (a : Bool) → a ≡ true → t ≡ true → latin_1 ≡ default_charset a type
   text_default true h f = sym (rw (sym e ∙ f))
-  text_default false h f = absurd (true≢false h)
+  text_default false h f = absurd (true≢false (sym h))
 
-  pub other_default : (a : Bool) → not a ≡ false → t ≡ false → no_charset ≡ default_charset a type
+  pub other_default : (a : Bool) → a ≡ true → t ≡ false → no_charset ≡ default_charset a type
   other_default true h f = sym (rw (sym e ∙ f))
   other_default false h f = refl
 

@@ -1,5 +1,6 @@
 // The charset of a media type: the effective one, and with the default of RFC 2616 3.7.1.
 #![tactic(auto)]
+
 ghost use Rattle.std.specs.Prelude.{◌≡◌, ◌≤◌, ◌+◌, length};
 ghost use Rattle.grammar.specs.helpers.Judge.{header};
 ghost use Rattle.grammar.specs.Reading as G;
