@@ -1,5 +1,6 @@
 // Lines of hexadecimal, for the programs: a line gathered from pieces of an input, and its digits as bytes.
 #![tactic(auto)]
+
 ghost use Rattle.std.specs.Prelude.{◌≡◌, true, ◌+◌, ◌*◌, length};
 ghost use Rattle.octets.specs.Bytes.{hex?, hex_value};
 ghost use Rattle.numerals.specs.Numeral.{every};
