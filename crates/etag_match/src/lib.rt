@@ -1,5 +1,6 @@
 // Entity tags matched: RFC 2616 13.3.3.
 #![tactic(auto)]
+
 ghost use Rattle.std.specs.Prelude.{◌≡◌};
 ghost use Rattle.octets.specs.Comparing.{comparison};
 ghost use Rattle.etag_match.specs.Matching.{weakly, strongly, matches, matching, weak_matching, strong_matching};
@@ -42,8 +43,8 @@ fn match_tags(a: &[u8], b: &[u8], strong: bool) -> Compared
 }
 
 fn is_match(a: &[u8], v: Tag, b: &[u8], w: Tag, strong: bool) -> bool
-    requires within { Within a.now v }
-    requires within_2 { Within b.now w }
+    requires first { Within a.now v }
+    requires second { Within b.now w }
     ensures { result ≡ matches strong a.now b.now v w }
 {
     if strong {
@@ -53,8 +54,8 @@ fn is_match(a: &[u8], v: Tag, b: &[u8], w: Tag, strong: bool) -> bool
 }
 
 fn match_strongly(a: &[u8], v: Tag, b: &[u8], w: Tag) -> bool
-    requires within { Within a.now v }
-    requires within_2 { Within b.now w }
+    requires first { Within a.now v }
+    requires second { Within b.now w }
     ensures { result ≡ strongly a.now b.now v w }
 {
     if v.weak {
@@ -67,8 +68,8 @@ fn match_strongly(a: &[u8], v: Tag, b: &[u8], w: Tag) -> bool
 }
 
 fn match_weakly(a: &[u8], v: Tag, b: &[u8], w: Tag) -> bool
-    requires within { Within a.now v }
-    requires within_2 { Within b.now w }
+    requires first { Within a.now v }
+    requires second { Within b.now w }
     ensures { result ≡ weakly a.now b.now v w }
 {
     let first = v.start;
