@@ -6,9 +6,6 @@ use mathlib.Core.Bool.{Bool, true, false, cond, not}
 use mathlib.Core.List.{List, [], ◌∷◌}
 use lib.IntN.{ℤ}
 use lib.ListN.{length, take}
-use denote.Enum.Declared.{tag_of}
-use types.Run.{OneOf, miss}
-use Rattle.calendar.specs.contracts.Told.{the_type}
 use Rattle.grammar.specs.Reading.{value}
 use Rattle.octets.specs.declared.Written.{Written}
 use Rattle.octets.specs.declared.Written.TheVariants.{Length, Refused}
@@ -17,7 +14,6 @@ use Rattle.octets.proofs.Writing as W
 use Rattle.text.specs.Placing.{placed}
 use Rattle.text.proofs.Placing.{placed-front}
 use Rattle.calendar.specs.declared.Fields.{Fields}
-use Rattle.calendar.specs.declared.Told.{Told}
 use Rattle.calendar.specs.declared.Told.TheVariants.{On, Outside}
 use Rattle.calendar.specs.Instants.{in_range?, told, fields_at, weekday_at}
 use Rattle.calendar.proofs.Dates.{date-of}
@@ -52,11 +48,6 @@ text-found k f l1 l2 l3 d1 d2 m1 m2 m3 y1 y2 y3 y4 h1 h2 i1 i2 s1 s2 e0 e1 e2 e3
     rw (e0, e1, e2, e3, e4, e5, e6, e7, e8, e9, e10, e11, e12, e13, e14, e15, e16, e17)
 
 -- ## The calendar's answer
-
--- a match on it: its first arm
-pub is-outside : (t : Told) → OneOf (1 ∷ []) (tag_of the_type t) → t ≡ Outside
-is-outside (On f w) h = absurd (miss (1 ∷ []) 0 tt h)
-is-outside Outside h = refl
 
 module _ (s : ℤ) where
   pub told_is : (f : Fields) (w : ℕ) → On f w ≡ told s → (in_range? s ≡ true) × (f ≡ fields_at s) × (w ≡ weekday_at s)

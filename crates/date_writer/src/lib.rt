@@ -1,5 +1,6 @@
 // HTTP dates in the form of RFC 1123: RFC 2616 3.3.1.
 #![tactic(auto)]
+
 ghost use Rattle.std.specs.Prelude.{◌≡◌, ◌≤◌, ◌<◌, length, get_or};
 ghost use Rattle.octets.specs.Writing.{written};
 ghost use Rattle.date_writer.specs.Writing.{date_text, date_writing, date_output, tens, ones};
