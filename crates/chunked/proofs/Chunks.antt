@@ -1,6 +1,5 @@
 -- Over a chunk at a stroke: its line, where that is known to be one, its data, and the CR LF behind it.
 use Rattle.std.proofs.Common.{◌≡◌, ℕ, ◌+◌, ◌-◌, ◌<◌, ◌≤◌, List, [], ◌∷◌, length, get_or, take, drop, sym, ◌∙◌, subst, arith, length-drop, length-take-le}
-use mathlib.Core.Option.{some}
 use native.Mathlib.Decide.{dec_le}
 use Rattle.framing.specs.Answer as Framing
 use Rattle.framing.specs.declared.LinePos.TheVariants.{First}
@@ -10,7 +9,6 @@ use Rattle.chunked.specs.Verdict.{verdict}
 use Rattle.chunked.specs.declared.Answer.{Answer}
 use Rattle.chunked.specs.declared.Answer.TheVariants.{Whole, More, Refused}
 use Rattle.chunked.specs.declared.Ending.{Ending}
-use Rattle.chunked.specs.declared.Ending.TheVariants as Ending
 use Rattle.chunked.specs.declared.ChunkLine.{ChunkLine}
 use Rattle.chunked.specs.declared.Run.{Run}
 use Rattle.chunked.specs.declared.Found.TheVariants as Found

@@ -15,7 +15,6 @@ use Rattle.framing.proofs.Passing.{Passes}
 use Rattle.framing.specs.Grammar.{limits}
 use Rattle.framing.proofs.Judging.{quiet-fits, quiet_line}
 use Rattle.chunked.specs.declared.Ending.{Ending}
-use Rattle.chunked.specs.declared.Ending.TheVariants as Ending
 use Rattle.framing.specs.declared.Whole.{Whole}
 use Rattle.chunked.specs.helpers.Passes.{At, Last, ending_answer}
 use Rattle.framing.proofs.Rooms.{Fits, ShortLine}

@@ -1,6 +1,5 @@
 -- Lines of one or two digits; and that the bytes at a place have one line.
 use Rattle.std.proofs.Common.{◌≡◌, ℕ, zero, suc, ◌+◌, ◌-◌, ◌*◌, ◌/◌, ◌<◌, ◌≤◌, true, false, cond, List, [], ◌∷◌, ◌++◌, length, get_or, take, drop, sym, refl, ap, ◌∙◌, subst, ap₂, add-one, arith, length-append, length-drop, length-take-le, get_or-drop, drop-cons, get_or-take, take_at}
-use mathlib.Core.Option.{some}
 use native.Mathlib.Decide.{dec_le}
 use lib.Seq.{take-append_seam, get_or-append_seam}
 use Rattle.octets.specs.Bytes.{hex?, hex_value}

@@ -2,7 +2,6 @@
 use Rattle.framing.specs.declared.Whole.{Whole}
 use Rattle.framing.specs.Answer as Framing
 use Rattle.chunked.specs.declared.Answer.{Answer}
-use Rattle.chunked.specs.declared.Answer.TheVariants as Answer
 
 abbrev pub verdict : Answer → Framing.Answer Whole
 verdict (Answer.Whole w) = Framing.whole w

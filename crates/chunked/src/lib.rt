@@ -1,5 +1,6 @@
 // Reads chunked bodies in two passes over the input: the first decides, the second copies the data of a body that is whole.
 #![tactic(auto)]
+
 ghost use Rattle.std.specs.Prelude.{◌≡◌, ℕ, ◌+◌, ◌-◌, ◌*◌, ◌<◌, ◌≤◌, true, List, [], ◌∷◌, length};
 ghost use Rattle.octets.specs.Bytes.{hex?, hex_value};
 ghost use Rattle.framing.specs.declared.LinePos.TheVariants.{First};

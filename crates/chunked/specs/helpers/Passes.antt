@@ -14,13 +14,10 @@ use Rattle.framing.specs.helpers.Scan.{run, out, Quiet}
 use Rattle.framing.specs.Reading.{judge, decode}
 use Rattle.positions.specs.helpers.Ends.{cr_byte}
 use Rattle.chunked.specs.declared.Answer.{Answer as Reading}
-use Rattle.chunked.specs.declared.Answer.TheVariants as Reading
 use Rattle.chunked.specs.declared.Ending.{Ending}
-use Rattle.chunked.specs.declared.Ending.TheVariants as Ending
 use Rattle.chunked.specs.declared.ChunkLine.{ChunkLine}
 use Rattle.chunked.specs.declared.Run.{Run}
 use Rattle.chunked.specs.declared.Found.{Found}
-use Rattle.chunked.specs.declared.Found.TheVariants as Found
 
 -- a pass stands at i: the bytes before led to the state s, with no verdict on the way
 pub record At (room : ℕ) (xs : List ℕ) (s : State) (i : ℕ) : Type 0 where

@@ -1,0 +1,10 @@
+-- `chunked::decide` meets its contract. The loop stands before a chunk line, behind chunks with as much data as its total says.
+use Rattle.std.proofs.Common.{◌-◌, length}
+use Rattle.chunked.specs.helpers.Passes.{Reached}
+use Rattle.chunked.proofs.decide.Given as goal
+
+abbrev pub invariant-loop-last : goal.invariant-loop-last
+invariant-loop-last l = Reached l.room l.input l.run
+
+abbrev pub decreases-loop-last : goal.decreases-loop-last
+decreases-loop-last l = length l.input - l.run.at
