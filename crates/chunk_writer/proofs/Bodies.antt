@@ -97,7 +97,7 @@ chunks-then {c} {d} [] cs none = subst (Body (c ++ end)) (sym (append-nil d)) (G
 chunks-then {c} {d} (xs ∷ pieces) cs (more h m ps) =
     subst (λ (z : List ℕ). Body z (d ++ (xs ++ joined pieces))) (append_assoc c (chunk xs) (framed pieces))
     (subst (Body ((c ++ chunk xs) ++ framed pieces)) (append_assoc d xs (joined pieces))
-    (chunks-then pieces (G.more cs (chunk-is xs h m)) ps))
+    (chunks-then {c = c ++ chunk xs} {d = d ++ xs} pieces (G.more cs (chunk-is xs h m)) ps))
 
 pub framed-body : (pieces : List (List ℕ)) → Pieces pieces → Body (framed pieces) (joined pieces)
 framed-body pieces ps = chunks-then pieces G.none ps

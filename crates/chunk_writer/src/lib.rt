@@ -1,5 +1,6 @@
 // Writes chunked bodies: RFC 2616 3.6.1 in the form of document 01.
 #![tactic(auto)]
+
 ghost use Rattle.std.specs.Prelude.{◌≡◌, true, ◌+◌, ◌<◌, ◌≤◌, length};
 ghost use Rattle.numerals.specs.Numeral.{numeral};
 ghost use Rattle.octets.specs.Writing.{written};
