@@ -1,5 +1,6 @@
 // HTTP versions: RFC 2616 3.1.
 #![tactic(auto)]
+
 ghost use Rattle.std.specs.Prelude.{◌≡◌, length};
 ghost use Rattle.grammar.specs.helpers.Judge.{header};
 ghost use Rattle.version.specs.Grammar.{rules};
@@ -44,8 +45,8 @@ impl Version {
     // Ordered by major, then minor, as numbers. A constant has no contract: what the two above are is promised here.
     pub fn compare(self, other: Version) -> Order
         ensures orders { result ≡ precedence self other }
-        ensures* later { do ⌜ numbered (← (⟦Version::HTTP_1_1.major⟧).entry) (← (⟦Version::HTTP_1_1.minor⟧).entry) ≡ http_1_1 ⌝ }
-        ensures* earlier { do ⌜ numbered (← (⟦Version::HTTP_1_0.major⟧).entry) (← (⟦Version::HTTP_1_0.minor⟧).entry) ≡ http_1_0 ⌝ }
+        ensures later { numbered Self.HTTP_1_1.major Self.HTTP_1_1.minor ≡ http_1_1 }
+        ensures earlier { numbered Self.HTTP_1_0.major Self.HTTP_1_0.minor ≡ http_1_0 }
     {
         if self.major < other.major {
             return Order::Less;
