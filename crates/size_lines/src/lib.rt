@@ -1,5 +1,6 @@
 // Chunk lines that are digits alone, at the front of bytes: one or two digits by their word, and any number of them.
 #![tactic(auto)]
+
 ghost use Rattle.std.specs.Prelude.{◌≡◌, ◌+◌, ◌*◌, ◌/◌, ◌%◌, ◌<◌, ◌≤◌};
 ghost use Rattle.chunked.specs.helpers.Passes.{HasSecond};
 ghost use Rattle.size_lines.specs.helpers.Lines.{InDigits, PlainLine};

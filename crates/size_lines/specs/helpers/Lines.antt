@@ -4,7 +4,6 @@ use Rattle.octets.specs.Bytes.{hex?}
 use Rattle.framing.specs.Grammar as G
 use Rattle.framing.specs.Grammar.{crlf, Many, hex_value_from, LINE_LIMIT}
 use Rattle.size_lines.specs.declared.Plain.{Plain}
-use Rattle.size_lines.specs.declared.Plain.TheVariants as Plain
 
 -- the first `at` bytes are digits of that value
 pub record InDigits (bytes : List ℕ) (left at value : ℕ) : Type 0 where
