@@ -1,5 +1,6 @@
 // What the bench program says of an answer, as text; what it says of each line, and prints of an input, is in specs/ and proofs/.
 #![tactic(auto)]
+
 ghost use Rattle.std.specs.Prelude.{◌≡◌};
 ghost use Rattle.text.specs.Placing.{placed, behind};
 ghost use Rattle.chunked.specs.Verdict.{verdict};
