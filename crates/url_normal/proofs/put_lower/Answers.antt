@@ -11,7 +11,6 @@ pub returns : goal.returns
 returns c =
     let x = c.args in
     let n = lower-length x.s.now in
-    let r =
-    puts_all x.out.now x.at (lower_all x.s.now) c.fill_lower.new.dst (x.at + length x.s.now)
+    let r = puts_all x.out.now x.at (lower_all x.s.now) c.fill_lower.new.dst (x.at + length x.s.now)
     (omega (arith, n, c.requires)) (omega (arith, n)) c.fill_lower.ensures in
     record { ends = r.0; writes = r.1 }

@@ -47,8 +47,7 @@ returns c =
     let s = c.put_bytes-scheme_end in
     let x = c.args in
     let e = c.text_at.ensures in
-    let r =
-    normal-put (page_in x.s.now x.u) x.out.now c.requires s.new.out s.result s.ensures.ends s.ensures.writes
+    let r = normal-put (page_in x.s.now x.u) x.out.now c.requires s.new.out s.result s.ensures.ends s.ensures.writes
     h.new.out h.result (h.ensures.ends ∙ ap (λ t. behind s.new.out s.result (lower_all t)) e)
     (h.ensures.writes ∙ ap (λ t. placed s.new.out s.result (lower_all t)) e)
     n.new.out n.result n.ensures.ends n.ensures.writes t.new.out t.result t.ensures.ends t.ensures.writes
