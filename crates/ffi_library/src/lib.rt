@@ -1,5 +1,6 @@
 // The version of the library for C and Rust.
 #![tactic(auto)]
+
 ghost use Rattle.std.specs.Prelude.{◌≡◌};
 ghost use Rattle.ffi_library.specs.Fields.{library_version};
 

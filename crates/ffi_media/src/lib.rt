@@ -1,5 +1,6 @@
 // Media types for C and Rust. Nothing is decided here.
 #![tactic(auto)]
+
 ghost use Rattle.std.specs.Prelude.{◌≡◌, map};
 ghost use Rattle.grammar.specs.helpers.Judge.{header};
 ghost use Rattle.media.specs.Grammar.{rules as media-types};
