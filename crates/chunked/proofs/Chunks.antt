@@ -1,5 +1,6 @@
 -- Over a chunk at a stroke: its line, where that is known to be one, its data, and the CR LF behind it.
-use Rattle.std.proofs.Common.{◌≡◌, ℕ, ◌+◌, ◌-◌, ◌<◌, ◌≤◌, List, [], ◌∷◌, length, get_or, take, drop, sym, ◌∙◌, subst, arith, length-drop, length-take-le}
+use Rattle.std.proofs.Common.{◌≡◌, ℕ, ◌+◌, ◌-◌, ◌<◌, ◌≤◌, List, [], ◌∷◌, length, get_or, take, drop, sym, ◌∙◌, subst, arith, length-drop}
+use Rattle.std.proofs.Common.{length-take-le}
 use native.Mathlib.Decide.{dec_le}
 use Rattle.framing.specs.Answer as Framing
 use Rattle.framing.specs.declared.LinePos.TheVariants.{First}

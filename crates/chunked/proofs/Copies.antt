@@ -1,5 +1,7 @@
 -- What the second pass has written, and that a whole answer leaves nothing out.
-use Rattle.std.proofs.Common.{◌≡◌, ℕ, zero, suc, ◌+◌, ◌-◌, ◌<◌, ◌≤◌, List, [], ◌∷◌, ◌++◌, length, get_or, take, drop, sym, refl, ap, ◌∙◌, subst, ap₂, append-nil, arith, length-append, length-drop, take-append-drop, length-take-le, get_or-drop, take-take, drop-drop, take-add, le-leb}
+use Rattle.std.proofs.Common.{◌≡◌, ℕ, zero, suc, ◌+◌, ◌-◌, ◌<◌, ◌≤◌, List, [], ◌∷◌, ◌++◌, length, get_or, take, drop, sym, refl, ap, ◌∙◌}
+use Rattle.std.proofs.Common.{subst, ap₂, append-nil, arith, length-append, length-drop, take-append-drop, length-take-le, get_or-drop}
+use Rattle.std.proofs.Common.{take-take, drop-drop, take-add, le-leb}
 use mathlib.Core.Option.{none, some}
 use native.Mathlib.Decide.{dec_le}
 use lib.Seq.{take-append-le, take-append-add, drop-append-add}

@@ -1,5 +1,6 @@
 -- The value of a hex digit by its lower four bits and its upper two; and a size by one digit or two.
-use Rattle.std.proofs.Common.{◌≡◌, ℕ, zero, suc, ◌+◌, ◌-◌, ◌*◌, ◌/◌, ◌%◌, ◌^◌, ◌<◌, ◌≤◌, Bool, true, false, cond, eqb, leb, sym, refl, subst, arith, eqb-true, leb-true}
+use Rattle.std.proofs.Common.{◌≡◌, ℕ, zero, suc, ◌+◌, ◌-◌, ◌*◌, ◌/◌, ◌%◌, ◌^◌, ◌<◌, ◌≤◌, Bool, true, false, cond, eqb, leb, sym, refl}
+use Rattle.std.proofs.Common.{subst, arith, eqb-true, leb-true}
 use Rattle.octets.specs.Bytes.{hex?, hex_value}
 use Rattle.octets.proofs.Spans.{by_range}
 

@@ -1,5 +1,7 @@
 -- A chunk line, a byte at a time: its digits, what stands behind them, its CR and LF; then the trailer.
-use Rattle.std.proofs.Common.{◌≡◌, ℕ, suc, ◌+◌, ◌-◌, ◌*◌, ◌<◌, ◌≤◌, Bool, true, false, cond, ◌&&◌, eqb, List, [], ◌∷◌, ◌++◌, length, get_or, take, drop, sym, refl, ap, ◌∙◌, subst, ap₂, append_assoc, arith, length-drop, length-take-le, get_or-drop, take-suc}
+use Rattle.std.proofs.Common.{◌≡◌, ℕ, suc, ◌+◌, ◌-◌, ◌*◌, ◌<◌, ◌≤◌, Bool, true, false, cond, ◌&&◌, eqb, List, [], ◌∷◌, ◌++◌, length, get_or}
+use Rattle.std.proofs.Common.{take, drop, sym, refl, ap, ◌∙◌, subst, ap₂, append_assoc, arith, length-drop, length-take-le, get_or-drop}
+use Rattle.std.proofs.Common.{take-suc}
 use mathlib.Core.Option.{none, some}
 use Rattle.octets.specs.Bytes.{hex?, hex_value}
 use Rattle.octets.proofs.Bytes.{is_hex, no_hex}

@@ -1,5 +1,7 @@
 -- Any line of a chunk, by its digits and its CR.
-use Rattle.std.proofs.Common.{◌≡◌, ℕ, zero, suc, ◌+◌, ◌-◌, ◌*◌, ◌<◌, ◌≤◌, true, false, List, [], ◌∷◌, ◌++◌, length, get_or, take, drop, sym, refl, ap, ◌∙◌, subst, arith, length-append, length-drop, get_or-drop, take-suc, take-take, get_or-append-add, take-add}
+use Rattle.std.proofs.Common.{◌≡◌, ℕ, zero, suc, ◌+◌, ◌-◌, ◌*◌, ◌<◌, ◌≤◌, true, false, List, [], ◌∷◌, ◌++◌, length, get_or, take, drop, sym}
+use Rattle.std.proofs.Common.{refl, ap, ◌∙◌, subst, arith, length-append, length-drop, get_or-drop, take-suc, take-take, get_or-append-add}
+use Rattle.std.proofs.Common.{take-add}
 use native.Mathlib.Decide.{dec_le}
 use lib.Seq.{take-append-le, take-append_seam, drop-append_seam}
 use Rattle.octets.specs.Bytes.{hex?, hex_value}

@@ -1,5 +1,7 @@
 -- Lines of one or two digits; and that the bytes at a place have one line.
-use Rattle.std.proofs.Common.{◌≡◌, ℕ, zero, suc, ◌+◌, ◌-◌, ◌*◌, ◌/◌, ◌<◌, ◌≤◌, true, false, cond, List, [], ◌∷◌, ◌++◌, length, get_or, take, drop, sym, refl, ap, ◌∙◌, subst, ap₂, add-one, arith, length-append, length-drop, length-take-le, get_or-drop, drop-cons, get_or-take, take_at}
+use Rattle.std.proofs.Common.{◌≡◌, ℕ, zero, suc, ◌+◌, ◌-◌, ◌*◌, ◌/◌, ◌<◌, ◌≤◌, true, false, cond, List, [], ◌∷◌, ◌++◌, length, get_or, take}
+use Rattle.std.proofs.Common.{drop, sym, refl, ap, ◌∙◌, subst, ap₂, add-one, arith, length-append, length-drop, length-take-le, get_or-drop}
+use Rattle.std.proofs.Common.{drop-cons, get_or-take, take_at}
 use native.Mathlib.Decide.{dec_le}
 use lib.Seq.{take-append_seam, get_or-append_seam}
 use Rattle.octets.specs.Bytes.{hex?, hex_value}

@@ -1,5 +1,6 @@
 -- Lines by one or two digits and a tail: what stood behind the digits of a line that was read.
-use Rattle.std.proofs.Common.{◌≡◌, ℕ, zero, suc, ◌+◌, ◌-◌, ◌*◌, ◌/◌, ◌≤◌, true, cond, List, [], ◌∷◌, length, get_or, take, drop, sym, refl, ap, ◌∙◌, subst, ap₂, arith, length-append, length-drop, length-take-le, drop-drop, take-add, drop_at}
+use Rattle.std.proofs.Common.{◌≡◌, ℕ, zero, suc, ◌+◌, ◌-◌, ◌*◌, ◌/◌, ◌≤◌, true, cond, List, [], ◌∷◌, length, get_or, take, drop, sym, refl}
+use Rattle.std.proofs.Common.{ap, ◌∙◌, subst, ap₂, arith, length-append, length-drop, length-take-le, drop-drop, take-add, drop_at}
 use native.Mathlib.Decide.{dec_le}
 use lib.Seq.{drop-append-le}
 use Rattle.octets.specs.Bytes.{hex?, hex_value}

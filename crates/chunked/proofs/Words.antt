@@ -1,5 +1,6 @@
 -- Bytes compared as words of four.
-use Rattle.std.proofs.Common.{◌≡◌, ℕ, zero, suc, ◌+◌, ◌-◌, ◌*◌, ◌<◌, ◌≤◌, true, List, length, get_or, take, drop, sym, ap, ◌∙◌, arith, length-drop, length-take-le, get_or-drop, get_or-take, ext_get_or}
+use Rattle.std.proofs.Common.{◌≡◌, ℕ, zero, suc, ◌+◌, ◌-◌, ◌*◌, ◌<◌, ◌≤◌, true, List, length, get_or, take, drop, sym, ap, ◌∙◌, arith}
+use Rattle.std.proofs.Common.{length-drop, length-take-le, get_or-drop, get_or-take, ext_get_or}
 use native.Mathlib.Decide.{dec_le}
 use Rattle.octets.specs.Same.{same?}
 use Rattle.octets.proofs.SameBytes.{same_list}

@@ -1,5 +1,6 @@
 -- Where a pass over the input stands, and what its parts find. Definitions for the contracts of the helpers.
-use Rattle.std.specs.Prelude.{◌≡◌, ℕ, ◌+◌, ◌-◌, ◌*◌, ◌<◌, ◌≤◌, false, List, ◌++◌, length, take, drop, ◌≢◌, slice_index, slice_index_or, slice_range}
+use Rattle.std.specs.Prelude.{◌≡◌, ℕ, ◌+◌, ◌-◌, ◌*◌, ◌<◌, ◌≤◌, false, List, ◌++◌, length, take, drop, ◌≢◌, slice_index, slice_index_or}
+use Rattle.std.specs.Prelude.{slice_range}
 use Prim.Native.Char.{code}
 use Rattle.octets.specs.Bytes.{hex?}
 use Rattle.framing.specs.Answer.{Answer, whole, more, refused}
