@@ -1,5 +1,6 @@
 // HTTP versions given as bytes, compared: RFC 2616 3.1.
 #![tactic(auto)]
+
 ghost use Rattle.std.specs.Prelude.{◌≡◌};
 ghost use Rattle.grammar.specs.Comparing.{compare as comparing};
 ghost use Rattle.grammar.specs.helpers.Judge.{header};
