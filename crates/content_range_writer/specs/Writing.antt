@@ -9,23 +9,23 @@ use Rattle.octets.specs.Numbers.{length_limit}
 use Rattle.octets.specs.Writing.{output, writing}
 
 -- "as `bytes 0-499/1234`"
-abbrev pub content_range_text : (first last entity-length : ℕ) → List ℕ
-content_range_text first last entity-length =
-    bytes "bytes " ++ numeral 10 first ++ bytes "-" ++ numeral 10 last ++ bytes "/" ++ numeral 10 entity-length
+abbrev pub content_range_text : (first last entity_length : ℕ) → List ℕ
+content_range_text first last entity_length =
+    bytes "bytes " ++ numeral 10 first ++ bytes "-" ++ numeral 10 last ++ bytes "/" ++ numeral 10 entity_length
 
 -- "first is at most last, last is below the length and the length at most 2^63-1"
-abbrev pub InRange : (first last entity-length : ℕ) → Type 0
-InRange first last entity-length = (first ≤ last) × (last < entity-length) × (entity-length ≤ length_limit)
+abbrev pub InRange : (first last entity_length : ℕ) → Type 0
+InRange first last entity_length = (first ≤ last) × (last < entity_length) × (entity_length ≤ length_limit)
 
 -- the test that this does not hold: `nine_exactly` ties the two
-abbrev pub out_of_range : (first last entity-length : ℕ) → Bool
-out_of_range first last entity-length = not (leb first last && ltb last entity-length && leb entity-length length_limit)
+abbrev pub out_of_range : (first last entity_length : ℕ) → Bool
+out_of_range first last entity_length = not (leb first last && ltb last entity_length && leb entity_length length_limit)
 
 -- the answer in a room, and the lent output afterwards
-abbrev pub content_range_writing : (first last entity-length : ℕ) → ℕ → Verdict ℕ
-content_range_writing first last entity-length room =
-    writing (out_of_range first last entity-length) (content_range_text first last entity-length) room
+abbrev pub content_range_writing : (first last entity_length : ℕ) → ℕ → Verdict ℕ
+content_range_writing first last entity_length room =
+    writing (out_of_range first last entity_length) (content_range_text first last entity_length) room
 
-abbrev pub content_range_output : (first last entity-length : ℕ) → List ℕ → List ℕ
-content_range_output first last entity-length old =
-    output (content_range_writing first last entity-length (length old)) (content_range_text first last entity-length) old
+abbrev pub content_range_output : (first last entity_length : ℕ) → List ℕ → List ℕ
+content_range_output first last entity_length old =
+    output (content_range_writing first last entity_length (length old)) (content_range_text first last entity_length) old
