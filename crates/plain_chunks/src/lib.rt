@@ -1,6 +1,7 @@
 // Passes over chunks whose lines are digits alone, and copies their data, as numbers alone: half the time of going from state to state, at
 // chunks of 16.
 #![tactic(auto)]
+
 ghost use Rattle.std.specs.Prelude.{◌≡◌, ◌+◌, ◌≤◌, length};
 ghost use Rattle.text.specs.Placing.{placed};
 ghost use Rattle.size_lines.specs.helpers.Lines.{PlainSize};

@@ -13,7 +13,6 @@ use Rattle.size_lines.specs.helpers.Lines.{PlainSize}
 use Rattle.size_lines.specs.helpers.Words.{word}
 use Rattle.plain_chunks.specs.declared.Run.{Run}
 use Rattle.plain_chunks.specs.declared.Chunk.{Chunk}
-use Rattle.plain_chunks.specs.declared.Chunk.TheVariants as Chunk
 
 -- where it stands behind the bytes
 abbrev pub stands : Run → State
