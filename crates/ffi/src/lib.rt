@@ -9,6 +9,7 @@
 // In each struct `number` is 0 where there is an answer, otherwise one of the refusal numbers; a field that has no meaning then is 0.
 // Places count from 0.
 #![tactic(auto)]
+
 ghost use Rattle.std.specs.Prelude.{◌≡◌};
 ghost use Rattle.grammar.specs.Comparing.{outcome, refused_at};
 ghost use Rattle.octets.specs.Comparing.{comparison};
