@@ -1,5 +1,6 @@
 // Product tokens with comments: RFC 2616 3.8 and 2.2.
 #![tactic(auto)]
+
 ghost use Rattle.std.specs.Prelude.{◌≡◌, ◌≤◌, ◌<◌, max, length};
 ghost use Rattle.grammar.specs.helpers.Judge.{header};
 ghost use Rattle.products.specs.Grammar.{rules};

@@ -1,0 +1,38 @@
+-- `products::read_plain` meets its contract: a byte of text, or a pair.
+use native.Mathlib.Omega.{arith}
+use mathlib.Core.Path.{sym, ◌∙◌}
+use lib.ListN.{get_or}
+use Rattle.products.proofs.Comments.{comment-text-bits, is-text, is-other, is-pair, is_no_pair, is-half-pair}
+use Rattle.products.proofs.read_plain.Goals as goal
+
+pub returns-then-in_class : goal.returns-then-in_class
+returns-then-in_class c =
+    let s = c.args.s.now in
+    let i = c.args.at in
+    let t = sym (comment-text-bits (get_or s i 0) (omega (arith, c.type_inv.s i))) ∙ sym c.in_class.ensures ∙ c.if-in_class.true in
+    record { forward = omega arith; inside = omega (arith, c.requires.at); reads = λ n a p. is-text s n a p i c.requires.at t }
+
+pub returns-then-s-at-ne92 : goal.returns-then-s-at-ne92
+returns-then-s-at-ne92 c a n p =
+    let s = c.args.s.now in
+    let i = c.args.at in
+    let t = sym (comment-text-bits (get_or s i 0) (omega (arith, c.type_inv.s i))) ∙ sym c.in_class.ensures ∙ c.if-in_class.false in
+    is-other s n a p i c.requires t c.if-s-at-ne92.true
+
+pub returns-then-s-at : goal.returns-then-s-at
+returns-then-s-at c a n p = is-half-pair c.args.s.now n a p c.args.at c.requires.at c.if-s-at-ne92.false c.if-s-at.true
+
+pub returns-then-is_escaped : goal.returns-then-is_escaped
+returns-then-is_escaped c =
+    let b = c.if-s-at.false in
+    record {
+      forward = omega arith;
+      inside = omega (arith, b);
+      reads = λ n a p.
+          is-pair c.args.s.now n a p c.args.at c.requires.at c.if-s-at-ne92.false b (sym c.is_escaped.ensures ∙ c.if-is_escaped.true);
+    }
+
+pub returns : goal.returns
+returns c a n p =
+    is_no_pair c.args.s.now n a p c.args.at c.requires.at c.if-s-at-ne92.false c.if-s-at.false
+    (sym c.is_escaped.ensures ∙ c.if-is_escaped.false)
