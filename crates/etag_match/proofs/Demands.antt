@@ -20,13 +20,13 @@ use Rattle.etag_match.proofs.Matching.{matched, match_swap, match_chain, weak_wh
 
 module _ (a b : List ℕ) (v w : Tag) (e : header rules a ≡ value v) (f : header rules b ≡ value w) where
   -- "Weak match: the bytes alone."
-  pub weak_match_lem : (weak_matching a b ≡ outcome true) ↔ (opaque_bytes a v ≡ opaque_bytes b w)
-  weak_match_lem = weak_when a b v w e f
+  pub weak_match : (weak_matching a b ≡ outcome true) ↔ (opaque_bytes a v ≡ opaque_bytes b w)
+  weak_match = weak_when a b v w e f
 
   -- "Strong match: neither is weak and the quoted bytes are the same as sent."
-  pub strong_match_lem : (strong_matching a b ≡ outcome true)
+  pub strong_match : (strong_matching a b ≡ outcome true)
       ↔ ((v.weak ≡ false) × (w.weak ≡ false) × (opaque_bytes a v ≡ opaque_bytes b w))
-  strong_match_lem = strong_when a b v w e f
+  strong_match = strong_when a b v w e f
 
   -- Two tags that read are compared, whatever they are: `matching true` is the strong match, and `matching false` the weak one.
   pub compared : (strong : Bool) → matching strong a b ≡ outcome (matches strong a b v w)
@@ -44,10 +44,10 @@ second-refused strong a b v n p e f = ap₂ (compare (matches strong a b)) e f
 -- A weak match is an equivalence of the tags that read, and a strong match one of the strong tags among them; a weak tag strongly matches
 -- nothing, itself included.
 pub weak_reflexive : (s : List ℕ) (v : Tag) → header rules s ≡ value v → weak_matching s s ≡ outcome true
-weak_reflexive s v e = (weak_match_lem s s v v e e).1 refl
+weak_reflexive s v e = (weak_match s s v v e e).1 refl
 
 pub strong_reflexive : (s : List ℕ) (v : Tag) → header rules s ≡ value v → v.weak ≡ false → strong_matching s s ≡ outcome true
-strong_reflexive s v e w = (strong_match_lem s s v v e e).1 (w, w, refl)
+strong_reflexive s v e w = (strong_match s s v v e e).1 (w, w, refl)
 
 pub symmetric : (strong : Bool) (a b : List ℕ) (t : Bool) → matching strong a b ≡ outcome t → matching strong b a ≡ outcome t
 symmetric = match_swap
