@@ -1,9 +1,6 @@
 -- Scans of header values: a run of a class, a word in any letter case, a decimal number under a limit, each against its grammar.
 use Rattle.std.proofs.Common.{◌≡◌, ℕ, zero, suc, ◌+◌, ◌-◌, ◌<◌, ◌≤◌, Bool, true, false, cond, ◌&&◌, ◌||◌, T, eqb, ltb, List, [], ◌∷◌, ◌++◌, length, get_or, take, drop, sym, refl, ap, ◌∙◌, subst, true≢false, append-nil, add-one, arith, drop_of_length-le, drop-cons, ltb-false, ltb-true, eqb-true}
 use mathlib.Core.Option.{Option, none, some}
-use denote.Enum.Declared.{tag_of}
-use types.Run.{OneOf, miss}
-use Rattle.scans.specs.contracts.Decimal.{the_type}
 use borrow.Author.Tests.{eqb-false}
 use Rattle.grammar.specs.Grammar.{Class, Part, Grammar, byte, part, plus, spell, fold, bytes?, lower, T-left, T-right, void}
 use Rattle.grammar.specs.helpers.Derivative.{live, deriv, then}
@@ -15,7 +12,6 @@ use Rattle.grammar.proofs.Scans.{Run, part-plus, part-plus-none, part-plus-break
 use Rattle.octets.specs.Bytes.{digit?}
 use Rattle.octets.specs.Classes.{DIGIT}
 use Rattle.octets.specs.Numbers.{grow, number_after, number, above?, number_limit}
-use Rattle.scans.specs.declared.Decimal.{Decimal}
 use Rattle.scans.specs.declared.Decimal.TheVariants.{Number, Above, Missing}
 use Rattle.scans.specs.helpers.Runs.{run, run_end}
 use Rattle.scans.specs.helpers.Decimals.{later, passing, decimal_of, decimal_at}
@@ -219,12 +215,6 @@ pub number-limits : {L : Type 0} (number? : L → Bool) (limit : ℕ) (cs : List
     → number_limit number? limit n (cs ++ record { label = k; start = i; text = t } ∷ []) ≡ cond (ltb limit (number t)) (some above) none
 number-limits number? limit cs e k i f n t =
     ap (λ (x : Bool). cond x (some above) none) (above-last number? limit cs (record { label = k; start = i; text = t }) e f)
-
--- a match on the answer: its last arm
-pub is_missing : (d : Decimal) → OneOf (2 ∷ []) (tag_of the_type d) → d ≡ Missing
-is_missing (Number v e) h = absurd (miss (2 ∷ []) 0 tt h)
-is_missing (Above p e) h = absurd (miss (2 ∷ []) 1 tt h)
-is_missing Missing h = refl
 
 -- ## Words in any letter case
 

@@ -19,20 +19,11 @@ returns-then-s-end c =
     let end = c.text_end-end.result in
     sym (quoted_out s end c.if-s-end.true) ∙ as_before s c.args.from c.loop-from.i end c.text_end-end.ensures c.loop-from.invariant
 
-pub returns-then-s-end-ne92 : goal.returns-then-s-end-ne92
-returns-then-s-end-ne92 c =
-    let s = c.args.s.now in
-    let end = c.text_end-end.result in
-    let i = c.loop-from.i in
-    let e = c.text_end-end.ensures in
-    sym (quoted_stop s end (omega arith) ((behind-text s i end e).0 (omega arith)) c.if-s-end-ne92.true)
-    ∙ as_before s c.args.from i end e c.loop-from.invariant
-
 pub returns-then-s-end-2 : goal.returns-then-s-end-2
 returns-then-s-end-2 c =
     let s = c.args.s.now in
     let end = c.text_end-end.result in
-    sym (pair-cut_off s end (omega arith) c.if-s-end-ne92.false c.if-s-end-2.true)
+    sym (pair-cut_off s end (omega arith) (omega arith) c.if-s-end-2.true)
     ∙ as_before s c.args.from c.loop-from.i end c.text_end-end.ensures c.loop-from.invariant
 
 pub returns-then-not-is_escaped : goal.returns-then-not-is_escaped
@@ -40,7 +31,7 @@ returns-then-not-is_escaped c =
     let s = c.args.s.now in
     let end = c.text_end-end.result in
     let e = sym c.is_escaped.ensures ∙ c.if-not-is_escaped.true in
-    sym (pair_bad s end c.if-s-end-ne92.false c.if-s-end-2.false e)
+    sym (pair_bad s end (omega arith) c.if-s-end-2.false e)
     ∙ as_before s c.args.from c.loop-from.i end c.text_end-end.ensures c.loop-from.invariant
 
 pub loop-from-smaller : goal.loop-from-smaller
@@ -51,5 +42,14 @@ loop-from-preserved c =
     let s = c.args.s.now in
     let end = c.text_end-end.result in
     let e = sym c.is_escaped.ensures ∙ c.if-not-is_escaped.false in
-    pair-good s end c.if-s-end-ne92.false c.if-s-end-2.false e
+    pair-good s end (omega arith) c.if-s-end-2.false e
     ∙ as_before s c.args.from c.loop-from.i end c.text_end-end.ensures c.loop-from.invariant
+
+pub returns-then-s-end-ne92 : goal.returns-then-s-end-ne92
+returns-then-s-end-ne92 c =
+    let s = c.args.s.now in
+    let end = c.text_end-end.result in
+    let i = c.loop-from.i in
+    let e = c.text_end-end.ensures in
+    sym (quoted_stop s end (omega arith) ((behind-text s i end e).0 (omega arith)) c.if-s-end-ne92.true)
+    ∙ as_before s c.args.from i end e c.loop-from.invariant

@@ -4,7 +4,6 @@ use Rattle.octets.specs.Bytes.{text?}
 use Rattle.scans.proofs.Runs.{run-end-out, run-end-stop, run-end-next}
 use Rattle.scans.proofs.Texts.{visible_text, backslash_not}
 use Rattle.scans.proofs.text_end.Goals as goal
-use Rattle.scans.proofs.text_end.Goals.{then-not-is_visible+else-not-is_other_text, else-not-is_visible+else-b-eq92}
 
 pub loop-i-init : goal.loop-i-init
 loop-i-init c = refl
@@ -18,27 +17,22 @@ returns-then-not-is_other_text c =
     ∙ c.if-not-is_other_text.true in
     sym (run-end-stop text? s l.i c.loop-i-test.true e) ∙ l.invariant
 
-pub returns-then-b-eq92 : goal.returns-then-b-eq92
-returns-then-b-eq92 c =
-    let l = c.loop-i in
-    let s = c.args.s.now in
-    sym (run-end-stop text? s l.i c.loop-i-test.true (backslash_not (get_or s l.i 0) c.if-b-eq92.true)) ∙ l.invariant
-
 pub loop-i-preserved : goal.loop-i-preserved
 loop-i-preserved c =
     let l = c.loop-i in
     let s = c.args.s.now in
     let b = get_or s l.i 0 in
     let is : text? b ≡ true =
-    elim c.if-not-is_visible.branch [
-      | then-not-is_visible+else-not-is_other_text w ↦
-          sym (w.is_other_text.ensures (sym c.is_visible.ensures ∙ w.if-not-is_visible.true)) ∙ w.if-not-is_other_text.false
-      | else-not-is_visible+else-b-eq92 w ↦
-          visible_text b (omega (arith, c.type_inv.s l.i)) (sym c.is_visible.ensures ∙ w.if-not-is_visible.false) w.if-b-eq92.false
-    ] in
+    grind (arith, visible_text) in
     run-end-next text? s l.i c.loop-i-test.true is ∙ l.invariant
 
 pub returns : goal.returns
 returns c =
     let l = c.loop-i in
     sym (run-end-out text? c.args.s.now l.i c.loop-i-test.false) ∙ l.invariant
+
+pub returns-then-b-eq92 : goal.returns-then-b-eq92
+returns-then-b-eq92 c =
+    let l = c.loop-i in
+    let s = c.args.s.now in
+    sym (run-end-stop text? s l.i c.loop-i-test.true (backslash_not (get_or s l.i 0) c.if-b-eq92.true)) ∙ l.invariant
