@@ -1,22 +1,19 @@
 -- The answer so far, and whether a body is over, by what a state holds.
 use mathlib.Core.Path.{◌≡◌, refl, ◌∙◌, ap}
 use mathlib.Core.Bool.{Bool, true, cond}
-use mathlib.Core.List.{[], ◌∷◌}
+use mathlib.Core.List.{[]}
 use mathlib.Core.Option.{none}
 use Prim.Native.Nat.{ℕ, ◌≤◌}
 use native.Mathlib.Omega.{arith}
 use lib.Dec.{eqb}
-use denote.Enum.Declared.{tag_of}
-use types.Run.{OneOf, miss}
 use borrow.Author.Tests.{eqb-true, eq-eqb, ne_eqb}
 use Rattle.framing.specs.Answer.{whole, more, refused}
 use Rattle.framing.specs.declared.State.{State}
 use Rattle.framing.specs.declared.State.TheVariants.{Line, LineFeed, Data, DataCr, DataLf, Trail, EndLf, Done, Dead}
-use Rattle.framing.specs.contracts.State.{the_type}
 use Rattle.framing.specs.helpers.Machine.{done, emit, tell}
 use Rattle.framing.proofs.Cases.{by_cond}
 use Rattle.pieces.specs.declared.Pieces.{Pieces}
-use Rattle.pieces.specs.Reading.{unrefused, answer_of, over, listed}
+use Rattle.pieces.specs.Reading.{unrefused, answer_of, listed}
 
 module _ (s : Pieces) where
   pub answer-refused : (s.refused ≡ 0 → ⊥) → answer_of s ≡ refused s.refused s.taken
@@ -39,7 +36,7 @@ module _ (s : Pieces) where
 
 -- ## The other arms of a match on a position
 -- not at a body's end
-pub not_done : (q : State) → OneOf (0 ∷ 1 ∷ 2 ∷ 3 ∷ 4 ∷ 5 ∷ 6 ∷ 8 ∷ []) (tag_of the_type q) → done q ≡ none
+pub not_done : (q : State) → ((t n : ℕ) → q ≡ Done t n → ⊥) → done q ≡ none
 unfolding done
 not_done (Line p k t) h = refl
 not_done (LineFeed v t) h = refl
@@ -48,15 +45,15 @@ not_done (DataCr t) h = refl
 not_done (DataLf t) h = refl
 not_done (Trail p k t) h = refl
 not_done (EndLf t n) h = refl
-not_done (Done t n) h = absurd (miss (0 ∷ 1 ∷ 2 ∷ 3 ∷ 4 ∷ 5 ∷ 6 ∷ 8 ∷ []) 7 tt h)
+not_done (Done t n) h = absurd (h t n refl)
 not_done Dead h = refl
 
--- neither in a line nor in data
-pub no_data : (q : State) → OneOf (1 ∷ 3 ∷ 4 ∷ 5 ∷ 6 ∷ 7 ∷ 8 ∷ []) (tag_of the_type q) → (b : ℕ) → emit q b ≡ []
+-- not in data
+pub no_data : (q : State) → ((m t : ℕ) → q ≡ Data m t → ⊥) → (b : ℕ) → emit q b ≡ []
 unfolding emit
 no_data (Line p k t) h b = refl
 no_data (LineFeed v t) h b = refl
-no_data (Data m t) h b = absurd (miss (1 ∷ 3 ∷ 4 ∷ 5 ∷ 6 ∷ 7 ∷ 8 ∷ []) 2 tt h)
+no_data (Data m t) h b = absurd (h m t refl)
 no_data (DataCr t) h b = refl
 no_data (DataLf t) h b = refl
 no_data (Trail p k t) h b = refl

@@ -16,7 +16,7 @@ use Rattle.text.specs.Placing.{placed}
 use Rattle.text.proofs.Placing.{placed-fits, placed-length, placed-placed}
 use Rattle.framing.specs.Answer.{Answer, refused}
 use Rattle.framing.specs.declared.Whole.{Whole}
-use Rattle.framing.specs.helpers.Machine.{End, start, done}
+use Rattle.framing.specs.helpers.Machine.{End, done}
 use Rattle.framing.proofs.Cases.{false-true, by_cond, pick_true, pick-false}
 use Rattle.transition.specs.Moving.{possible}
 use Rattle.pieces.specs.Grammar.{FRAMED_LIMIT}

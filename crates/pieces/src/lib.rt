@@ -1,5 +1,6 @@
 // Reads chunked bodies in pieces, as they arrive: a state by value goes from call to call, and data is written as it comes.
 #![tactic(auto)]
+
 ghost use Rattle.std.specs.Prelude.{◌≡◌, true, false, ◌+◌, ◌-◌, ◌<◌, ◌≤◌, length, length as length_of};
 ghost use Rattle.text.specs.Placing.{placed};
 ghost use Rattle.framing.specs.declared.State.TheVariants.{Line, Data};

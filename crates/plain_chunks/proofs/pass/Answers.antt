@@ -88,11 +88,13 @@ loop-at-preserved c =
 
 pub overflow_add-total-in-Begun : goal.overflow_add-total-in-Begun
 overflow_add-total-in-Begun c =
-    omega (arith, (all c.args.bytes.now c.loop-at.at (length c.args.out.now - c.loop-at.total) (Begun c.in-Begun.value c.in-Begun.length) c.in-Begun.ensures).fits, total-fits refl c.loop-at.invariant.0)
+    let b = all c.args.bytes.now c.loop-at.at (length c.args.out.now - c.loop-at.total) (Begun c.in-Begun.value c.in-Begun.length) c.in-Begun.ensures in
+    omega (arith, b.fits, total-fits refl c.loop-at.invariant.0)
 
 pub overflow_add-at-in-Begun : goal.overflow_add-at-in-Begun
 overflow_add-at-in-Begun c =
-    omega (arith, (all c.args.bytes.now c.loop-at.at (length c.args.out.now - c.loop-at.total) (Begun c.in-Begun.value c.in-Begun.length) c.in-Begun.ensures).inside, length-drop c.loop-at.at c.args.bytes.now, c.loop-at.invariant.0.inside)
+    let b = all c.args.bytes.now c.loop-at.at (length c.args.out.now - c.loop-at.total) (Begun c.in-Begun.value c.in-Begun.length) c.in-Begun.ensures in
+    omega (arith, b.inside, length-drop c.loop-at.at c.args.bytes.now, c.loop-at.invariant.0.inside)
 
 pub shape_of-out-in-Begun : goal.shape_of-out-in-Begun
 shape_of-out-in-Begun c =
