@@ -42,7 +42,7 @@ returns-then-out-len c =
     let j = x.last in
     let n = x.entity_length in
     let r = refuses-short (out_of_range i j n) (content_range_text i j n) x.out.now c.unwritten-then-out-len.result c.unwritten-then-out-len.ensures
-    (within i j n (c.if-first-last.false, c.if-last-entity_length.false, c.if-entity_length-gt-LENGTH_LIMIT.false))
+    (within i j n (omega arith, omega arith, omega arith))
     (omega (arith, c.text_len-len.ensures, c.if-out-len.true)) in
     record { answers = r.0; writes = r.1 }
 
@@ -54,6 +54,6 @@ returns c =
     let n = x.entity_length in
     let r = writes-all (out_of_range i j n) (content_range_text i j n) x.out.now
     c.text_len-len.result c.put_text.new.out c.text_len-len.ensures
-    (within i j n (c.if-first-last.false, c.if-last-entity_length.false, c.if-entity_length-gt-LENGTH_LIMIT.false))
+    (within i j n (omega arith, omega arith, omega arith))
     (omega (arith, c.text_len-len.ensures, c.if-out-len.false)) c.put_text.ensures in
     record { answers = r.0; writes = r.1 }
