@@ -49,9 +49,9 @@ mark-broken b x e = rw e
 no_mark : (b : ℕ) → eqb (lower b) (lower 87) ≡ false → deriv entity_tag 0 b ≡ deriv opaque_tag 0 b
 no_mark b e = rw e
 
-pub quote-first : (s : List ℕ) → 0 < length s → get_or s 0 0 ≡ 34 → 0 ≡ agreeing mark s
-quote-first [] h e = absurd (omega arith)
-quote-first (b ∷ t) h e = go (eqb (lower b) (lower 87)) refl
+pub quote_first : (s : List ℕ) → 0 < length s → get_or s 0 0 ≡ 34 → 0 ≡ agreeing mark s
+quote_first [] h e = absurd (omega arith)
+quote_first (b ∷ t) h e = go (eqb (lower b) (lower 87)) refl
   where
     go : (x : Bool) → eqb (lower b) (lower 87) ≡ x → 0 ≡ cond x (suc (agreeing (47 ∷ []) t)) 0
     go true f = absurd (true≢false (sym (eq-eqb b 34 e) ∙ no_quote b f))

@@ -48,6 +48,7 @@ pub fn read(s: &[u8]) -> Reading
 }
 
 // How many bytes of the mark stand at the front. A quote says that there is none: `"xyzzy"` is read in 0.9 of the time.
+#[tactic(auto, using(crate::proofs::Scan::quote_first))]
 fn mark_len(s: &[u8]) -> usize
     ensures { result ≡ agreeing mark s.now }
 {

@@ -10,17 +10,12 @@ use Rattle.language.proofs.read_subtags.Goals as goal
 pub loop-at-init : goal.loop-at-init
 loop-at-init c = c.requires
 
-pub returns-then-s-at-ne45 : goal.returns-then-s-at-ne45
-returns-then-s-at-ne45 c =
-    sym (hyphen_not c.args.s.now c.loop-at.parts _ c.loop-at.at c.loop-at.invariant c.loop-at-test.true
-    c.if-s-at-ne45.true)
-
 pub returns-then-end-at : goal.returns-then-end-at
 returns-then-end-at c =
     let e = c.if-end-at.true in
     ap (refused 1) e
     ∙ sym (subtag-none c.args.s.now c.loop-at.parts _ c.loop-at.at c.loop-at.invariant
-    c.loop-at-test.true c.if-s-at-ne45.false (sym c.part_end-end.ensures ∙ e))
+    c.loop-at-test.true (omega arith) (sym c.part_end-end.ensures ∙ e))
 
 pub overflow_add-parts : goal.overflow_add-parts
 overflow_add-parts c =
@@ -37,9 +32,14 @@ loop-at-preserved c =
     let e = c.part_end-end.ensures in
     subst (λ (n : ℕ). Behind x.s.now (c.loop-at.parts + 1) x.primary_length n) (sym e)
     (subtag-reads x.s.now c.loop-at.parts x.primary_length c.loop-at.at c.loop-at.invariant
-    c.loop-at-test.true c.if-s-at-ne45.false (λ z. c.if-end-at.false (e ∙ z)))
+    c.loop-at-test.true (omega arith) (λ z. c.if-end-at.false (e ∙ z)))
 
 pub returns : goal.returns
 returns c =
     let l = c.loop-at in
     sym (tag-reads c.args.s.now l.parts _ l.at l.invariant c.loop-at-test.false)
+
+pub returns-then-s-at-ne45 : goal.returns-then-s-at-ne45
+returns-then-s-at-ne45 c =
+    sym (hyphen_not c.args.s.now c.loop-at.parts _ c.loop-at.at c.loop-at.invariant c.loop-at-test.true
+    c.if-s-at-ne45.true)
