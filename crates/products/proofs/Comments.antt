@@ -232,10 +232,6 @@ module _ (s : List ℕ) where
         regroup cs ps = simp append_assoc
 
   -- the same where the allowance is a number a, with a - 1 within the comment
-  pub none_allowed : (i a : ℕ) → a ≡ 0 → (n : ℕ) (p : Place n a) → entered s i n a p ≡ refused 12 i
-  none_allowed i zero e n p = refl
-  none_allowed i (suc a) e n p = absurd (omega arith)
-
   module _ (i : ℕ) where
     pub some-refused : (a : ℕ) → (a ≡ 0 → ⊥) → (x y : ℕ) → RefusedWithin s (i + 1) (a - 1) x y → (n : ℕ) (p : Place n a) → entered s i n a p ≡ refused x y
     some-refused zero h x y r = absurd (h refl)
