@@ -1,5 +1,6 @@
 // Media types compared, and their charset, for C and Rust. Nothing is decided here.
 #![tactic(auto)]
+
 ghost use Rattle.std.specs.Prelude.{◌≡◌};
 ghost use Rattle.grammar.specs.helpers.Judge.{header};
 ghost use Rattle.media_charset.specs.Charset.{effective_charsets, charsets_assuming_iso_8859_1};

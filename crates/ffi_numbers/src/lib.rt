@@ -1,5 +1,6 @@
 // Delta-seconds and qvalues for C and Rust. Nothing is decided here.
 #![tactic(auto)]
+
 ghost use Rattle.std.specs.Prelude.{◌≡◌, length};
 ghost use Rattle.grammar.specs.helpers.Judge.{header};
 ghost use Rattle.delta.specs.Grammar.{rules as deltas};

@@ -1,5 +1,6 @@
 // Language tags and entity tags for C and Rust. Nothing is decided here.
 #![tactic(auto)]
+
 ghost use Rattle.std.specs.Prelude.{◌≡◌};
 ghost use Rattle.grammar.specs.helpers.Judge.{header};
 ghost use Rattle.language.specs.Grammar.{rules as languages};
