@@ -11,23 +11,17 @@ returns-then-equals-start c =
     let g = c.token_end-equals in
     name-none c.requires (sym g.ensures ∙ c.if-equals-start.true)
 
-pub returns-then-found-eq-PARAMETER_LIMIT : goal.returns-then-found-eq-PARAMETER_LIMIT
-returns-then-found-eq-PARAMETER_LIMIT c =
-    let g = c.token_end-equals in
-    seventeenth c.requires g.result g.ensures c.if-equals-start.false
-    (omega (arith, c.if-found-eq-PARAMETER_LIMIT.true, counted_in c.requires.before))
-
 pub returns-then-s-equals : goal.returns-then-s-equals
 returns-then-s-equals c =
     let g = c.token_end-equals in
     name-cut_off c.requires g.result g.ensures c.if-equals-start.false
-    (omega (arith, c.if-found-eq-PARAMETER_LIMIT.false, counted_in c.requires.before, c.requires.before.few)) c.if-s-equals.true
+    (omega (arith, counted_in c.requires.before, c.requires.before.few)) c.if-s-equals.true
 
 pub returns-then-s-equals-ne61 : goal.returns-then-s-equals-ne61
 returns-then-s-equals-ne61 c =
     let g = c.token_end-equals in
     equals_not c.requires g.result g.ensures c.if-equals-start.false
-    (omega (arith, c.if-found-eq-PARAMETER_LIMIT.false, counted_in c.requires.before, c.requires.before.few))
+    (omega (arith, counted_in c.requires.before, c.requires.before.few))
     c.if-s-equals.false c.if-s-equals-ne61.true
 
 pub is_repeated-requires : goal.is_repeated-requires
@@ -43,7 +37,7 @@ returns-then-is_repeated c =
     let e = sym c.if-is_repeated.true ∙ c.is_repeated.ensures in
     name-repeated c.requires g.result g.ensures
     c.if-equals-start.false
-    (omega (arith, c.if-found-eq-PARAMETER_LIMIT.false, counted_in c.requires.before, c.requires.before.few))
+    (omega (arith, counted_in c.requires.before, c.requires.before.few))
     c.if-s-equals.false c.if-s-equals-ne61.false e
 
 pub read_value-requires : goal.read_value-requires
@@ -60,6 +54,12 @@ returns c =
     let e = sym c.if-is_repeated.false ∙ c.is_repeated.ensures in
     let w = name_new c.requires g.result g.ensures
     c.if-equals-start.false
-    (omega (arith, c.if-found-eq-PARAMETER_LIMIT.false, counted_in c.requires.before, c.requires.before.few))
+    (omega (arith, counted_in c.requires.before, c.requires.before.few))
     c.if-s-equals.false c.if-s-equals-ne61.false e in
     steps_on s x.found ps x.start g.result c.read_value.result w.ordered (c.read_value.ensures x.found ps w)
+
+pub returns-then-found-eq-PARAMETER_LIMIT : goal.returns-then-found-eq-PARAMETER_LIMIT
+returns-then-found-eq-PARAMETER_LIMIT c =
+    let g = c.token_end-equals in
+    seventeenth c.requires g.result g.ensures c.if-equals-start.false
+    (omega (arith, counted_in c.requires.before))

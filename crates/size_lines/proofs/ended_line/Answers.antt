@@ -5,4 +5,4 @@ use Rattle.size_lines.proofs.ended_line.Goals as goal
 
 pub returns : goal.returns
 returns c =
-    digits-end c.requires (omega arith) (omega arith) c.if-bytes-at-ne13.false c.if-bytes-at-ne10.false
+    digits-end c.requires (omega arith) (omega arith) (omega arith) (omega arith)

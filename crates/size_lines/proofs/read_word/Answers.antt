@@ -4,6 +4,15 @@ use native.Mathlib.Omega.{arith}
 use Rattle.size_lines.proofs.Words.{short_none, word_line}
 use Rattle.size_lines.proofs.read_word.Goals as goal
 
+pub returns : goal.returns
+returns c =
+    let z = c.short_size-size in
+    let e = c.line_end in (
+      word_line c.args.word c.hex_value-first.ensures c.hex_value-second.ensures c.has_second-two.ensures
+          (omega arith) (omega arith) e.ensures (omega arith) z.ensures.1 z.ensures.2 (omega arith),
+      refl,
+    )
+
 pub returns-then-first-gt15 : goal.returns-then-first-gt15
 returns-then-first-gt15 c = (short_none, refl)
 
@@ -15,12 +24,3 @@ returns-then-line_end-ne-CRLF c = (short_none, refl)
 
 pub returns-then-size-eq0 : goal.returns-then-size-eq0
 returns-then-size-eq0 c = (short_none, refl)
-
-pub returns : goal.returns
-returns c =
-    let z = c.short_size-size in
-    let e = c.line_end in (
-      word_line c.args.word c.hex_value-first.ensures c.hex_value-second.ensures c.has_second-two.ensures
-          (omega arith) (omega arith) e.ensures (omega arith) z.ensures.1 z.ensures.2 (omega arith),
-      refl,
-    )
