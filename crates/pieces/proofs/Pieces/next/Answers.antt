@@ -4,13 +4,13 @@ use mathlib.Core.Path.{sym, ◌∙◌}
 use Rattle.pieces.proofs.Valid.{next-to, next-full, next-turned, never_impossible}
 use Rattle.pieces.proofs.Pieces.next.Goals as goal
 
+pub moved-requires : goal.moved-requires
+moved-requires c = omega (arith, c.requires.within)
+
 pub returns-then-self-eq-FRAMED_LIMIT : goal.returns-then-self-eq-FRAMED_LIMIT
 returns-then-self-eq-FRAMED_LIMIT c =
     c.refuse.ensures
     ∙ next-full c.args.self c.args.byte c.requires (sym c.next.ensures ∙ c.in-To.is) c.if-self-eq-FRAMED_LIMIT.true
-
-pub moved-requires : goal.moved-requires
-moved-requires c = omega (arith, c.requires.within, c.if-self-eq-FRAMED_LIMIT.false)
 
 pub returns-else-self-eq-FRAMED_LIMIT : goal.returns-else-self-eq-FRAMED_LIMIT
 returns-else-self-eq-FRAMED_LIMIT c =
