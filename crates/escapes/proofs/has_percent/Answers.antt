@@ -1,13 +1,11 @@
 -- `escapes::has_percent` meets its contract: what was found, or what is left, has one just where the whole has.
-use Prim.Native.Nat.{◌+◌}
 use native.Mathlib.Omega.{arith}
-use mathlib.Core.Path.{◌≡◌, refl, sym, ap, subst, ◌∙◌}
+use mathlib.Core.Path.{◌≡◌, refl, sym, ap, ◌∙◌}
 use mathlib.Core.Bool.{Bool, true, false, ◌||◌}
-use lib.ListN.{drop, drop_of_length-le}
+use lib.ListN.{drop_of_length-le}
 use Rattle.escapes.specs.helpers.Units.{percent?}
 use Rattle.escapes.proofs.Resolved.{percent_here, percent_not-here}
 use Rattle.escapes.proofs.has_percent.Goals as goal
-use Rattle.escapes.proofs.has_percent.Goals.{else-s-i-eq37, then-s-i-eq37}
 
 or_none : (t : Bool) → t ≡ (t || false)
 or_none true = refl
@@ -20,11 +18,9 @@ pub loop-i-preserved : goal.loop-i-preserved
 loop-i-preserved c =
     let l = c.loop-i in
     let s = c.args.s.now in
-    elim c.if-s-i-eq37.branch [
-      | then-s-i-eq37 w ↦ subst (λ t. (t || percent? (drop (l.i + 1) s)) ≡ percent? s) (sym w.found-is) (percent_here s l.i l.found (omega arith) l.invariant w.if-s-i-eq37.true)
-      | else-s-i-eq37 w ↦ subst (λ t. (t || percent? (drop (l.i + 1) s)) ≡ percent? s) (sym w.found-is)
-          (percent_not-here s l.i l.found (omega arith) l.invariant w.if-s-i-eq37.false)
-    ]
+    let here = percent_here s l.i l.found (omega arith) l.invariant in
+    let behind = percent_not-here s l.i l.found (omega arith) l.invariant in
+    grind (arith, here, behind)
 
 pub returns : goal.returns
 returns c =
