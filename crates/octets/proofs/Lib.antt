@@ -1,5 +1,6 @@
 pub mod Spans
 pub mod Bytes
+pub mod Classes
 pub mod Tables
 pub mod SameBy
 pub mod SameBytes

@@ -5,7 +5,7 @@ use Rattle.grammar.specs.Grammar.{Class, Grammar, byte, plus, just}
 use Rattle.grammar.specs.Classes.{range, ◌or◌, but}
 use Rattle.grammar.specs.Text.{bytes}
 use Rattle.octets.specs.Bytes.{digit?, letter?, hex?, blank?, separators, token?, text?, escaped?}
-use Rattle.octets.specs.helpers.Tests.{tested-below, tested-holds}
+use Rattle.octets.specs.helpers.Tests.{tested-below, tested-holds, letter-below, letter-holds, blank-below, blank-holds}
 
 -- the class of the bytes that pass p, which is the test of c
 abbrev pub tested : (p : ℕ → Bool) (c : Class) → p ≡ c.has → Class
@@ -18,12 +18,9 @@ digit_is = refl
 abbrev pub DIGIT : Class
 DIGIT = tested digit? (range (code "0") (code "9") tt) digit_is
 
-pub letter-is : letter? ≡ (range (code "A") (code "Z") tt or range (code "a") (code "z") tt).has
-unfolding letter?
-letter-is = refl
-
+-- the class of the letters: `letter-is` (proofs/Classes.antt)
 abbrev pub LETTER : Class
-LETTER = tested letter? (range (code "A") (code "Z") tt or range (code "a") (code "z") tt) letter-is
+LETTER = record { has = letter?; below = letter-below; some = code "A"; holds = letter-holds }
 
 pub hex_is : hex? ≡ (range (code "0") (code "9") tt or range (code "A") (code "F") tt or range (code "a") (code "f") tt).has
 unfolding hex?
@@ -32,12 +29,9 @@ hex_is = refl
 abbrev pub HEX : Class
 HEX = tested hex? (range (code "0") (code "9") tt or range (code "A") (code "F") tt or range (code "a") (code "f") tt) hex_is
 
-pub blank-is : blank? ≡ (just (code " ") tt or just (code "\t") tt).has
-unfolding blank?
-blank-is = refl
-
+-- the class of the blanks: `blank-is` (proofs/Classes.antt)
 abbrev pub BLANK : Class
-BLANK = tested blank? (just (code " ") tt or just (code "\t") tt) blank-is
+BLANK = record { has = blank?; below = blank-below; some = code " "; holds = blank-holds }
 
 pub token-is : token? ≡ (but (range 33 126 tt) separators (code "a") tt).has
 unfolding token?
