@@ -1,5 +1,6 @@
 // Chunked bodies for C and Rust. Nothing is decided here.
 #![tactic(auto)]
+
 ghost use Rattle.std.specs.Prelude.{◌≡◌, length};
 ghost use Rattle.framing.specs.Reading.{decode as decoding, decode_output};
 ghost use Rattle.chunk_writer.specs.Writing.{frame_writing as encoding, frame_output as encoded-output};

@@ -1,5 +1,6 @@
 // Dates for C and Rust. Nothing is decided here.
 #![tactic(auto)]
+
 ghost use Rattle.std.specs.Prelude.{◌≡◌, length};
 ghost use Rattle.date.specs.Reading.{reading};
 ghost use Rattle.date_writer.specs.Writing.{date_writing, date_output};

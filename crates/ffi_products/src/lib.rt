@@ -1,5 +1,6 @@
 // Products and comments for C and Rust. Nothing is decided here.
 #![tactic(auto)]
+
 ghost use Rattle.std.specs.Prelude.{◌≡◌};
 ghost use Rattle.grammar.specs.helpers.Judge.{header};
 ghost use Rattle.products.specs.Grammar.{rules as product-lists};

@@ -1,5 +1,6 @@
 // Byte ranges and Content-Range for C and Rust. Nothing is decided here.
 #![tactic(auto)]
+
 ghost use Rattle.std.specs.Prelude.{◌≡◌, map, length};
 ghost use Rattle.ranges.specs.Reading.{reading};
 ghost use Rattle.content_range_writer.specs.Writing.{content_range_writing, content_range_output};
