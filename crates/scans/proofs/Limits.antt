@@ -1,7 +1,5 @@
 -- A number above its limit stays above it: as far as more of the text is read, no number grows smaller.
-use Rattle.std.proofs.Common.{◌≡◌, ℕ, zero, suc, ◌-◌, ◌<◌, ◌≤◌, Bool, true, false, cond, ◌&&◌, ◌||◌, T, ltb, ◌⊎◌, List, [], ◌∷◌, length}
-use Rattle.std.proofs.Common.{take, sym, refl, ap, ◌∙◌, subst, inl, inr, true≢false, append-nil, arith, take_all, ltb-false, ltb-true}
-use Rattle.std.proofs.Common.{le-ltb, lt-ltb}
+use Rattle.std.proofs.Common.{◌≡◌, ℕ, zero, suc, ◌-◌, ◌<◌, ◌≤◌, Bool, true, false, cond, ◌&&◌, ◌||◌, T, ltb, ◌⊎◌, List, [], ◌∷◌, length, take, sym, refl, ap, ◌∙◌, subst, inl, inr, true≢false, append-nil, arith, take_all, ltb-false, ltb-true, le-ltb, lt-ltb}
 use mathlib.Core.Option.{none, some}
 use Rattle.grammar.specs.Grammar.{Part, Parses}
 use Rattle.grammar.specs.Reading.{Rules, SoFar, Passes, Sound, above, parts_before}

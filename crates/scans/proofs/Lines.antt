@@ -1,7 +1,5 @@
 -- The law of a line: single bytes and numbers of so many digits, one behind the other, against a text and its shape.
-use Rattle.std.proofs.Common.{◌≡◌, ℕ, zero, suc, ◌+◌, ◌<◌, ◌≤◌, Bool, true, false, cond, not, ◌&&◌, T, eqb, ltb, ◌⊎◌, List, [], ◌∷◌, ◌++◌}
-use Rattle.std.proofs.Common.{length, get_or, drop, sym, refl, ap, ◌∙◌, inl, inr, append_assoc, append-nil, add-one, arith}
-use Rattle.std.proofs.Common.{drop_of_length-le, drop-cons, ltb-false, ltb-true}
+use Rattle.std.proofs.Common.{◌≡◌, ℕ, zero, suc, ◌+◌, ◌<◌, ◌≤◌, Bool, true, false, cond, not, ◌&&◌, T, eqb, ltb, ◌⊎◌, List, [], ◌∷◌, ◌++◌, length, get_or, drop, sym, refl, ap, ◌∙◌, inl, inr, append_assoc, append-nil, add-one, arith, drop_of_length-le, drop-cons, ltb-false, ltb-true}
 use mathlib.Core.Option.{none}
 use Rattle.grammar.specs.Grammar.{Part, Grammar, void, empty, byte, ◌⨾◌, part, rest, just, grown, T-left, T-right}
 use Rattle.grammar.specs.helpers.Derivative.{live, nullable, deriv, ends, then, seq, during}

@@ -1,6 +1,5 @@
 -- Quoted strings: the place where the text and pairs stop, against the grammar.
-use Rattle.std.proofs.Common.{◌≡◌, ℕ, zero, suc, ◌+◌, ◌<◌, ◌≤◌, Bool, true, false, eqb, ltb, List, [], ◌∷◌, ◌++◌, length, get_or, drop, sym}
-use Rattle.std.proofs.Common.{refl, ap, ◌∙◌, subst, true≢false, append-nil, arith, ltb-false, ltb-true, eq-eqb, ne_eqb, eqb-true}
+use Rattle.std.proofs.Common.{◌≡◌, ℕ, zero, suc, ◌+◌, ◌<◌, ◌≤◌, Bool, true, false, eqb, ltb, List, [], ◌∷◌, ◌++◌, length, get_or, drop, sym, refl, ap, ◌∙◌, subst, true≢false, append-nil, arith, ltb-false, ltb-true, eq-eqb, ne_eqb, eqb-true}
 use mathlib.Core.Option.{none}
 use Rattle.grammar.specs.Grammar.{Part, Grammar, void, byte, ◌⨾◌, part, rest, grown}
 use Rattle.grammar.specs.helpers.Derivative.{live, deriv, ends, then, seq, during}

@@ -1,6 +1,5 @@
 -- Quoted strings: where the text and pairs stop, a step at a time.
-use Rattle.std.proofs.Common.{◌≡◌, ℕ, suc, ◌+◌, ◌<◌, ◌≤◌, Bool, true, false, cond, eqb, List, [], ◌∷◌, length, get_or, drop, sym, refl, ap}
-use Rattle.std.proofs.Common.{◌∙◌, subst, add-one, arith, length-drop, drop_of_length-le, drop-cons, drop-drop, eq-eqb, ne_eqb}
+use Rattle.std.proofs.Common.{◌≡◌, ℕ, suc, ◌+◌, ◌<◌, ◌≤◌, Bool, true, false, cond, eqb, List, [], ◌∷◌, length, get_or, drop, sym, refl, ap, ◌∙◌, subst, add-one, arith, length-drop, drop_of_length-le, drop-cons, drop-drop, eq-eqb, ne_eqb}
 use Rattle.octets.specs.Bytes.{text?, escaped?}
 use Rattle.scans.specs.helpers.Runs.{run, run_end}
 use Rattle.scans.specs.helpers.Quoted.{quoted_length, quoted_end}

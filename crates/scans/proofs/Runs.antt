@@ -1,6 +1,5 @@
 -- Where a run ends, a byte at a time; and what a run is.
-use Rattle.std.proofs.Common.{◌≡◌, ℕ, zero, suc, ◌+◌, ◌-◌, ◌<◌, ◌≤◌, Bool, true, false, cond, List, [], ◌∷◌, length, get_or, take, drop}
-use Rattle.std.proofs.Common.{refl, ap, ◌∙◌, subst, add-one, arith, length-drop, drop_of_length-le, get_or-drop, drop-cons}
+use Rattle.std.proofs.Common.{◌≡◌, ℕ, zero, suc, ◌+◌, ◌-◌, ◌<◌, ◌≤◌, Bool, true, false, cond, List, [], ◌∷◌, length, get_or, take, drop, refl, ap, ◌∙◌, subst, add-one, arith, length-drop, drop_of_length-le, get_or-drop, drop-cons}
 use lib.Seq.{take-length}
 use Rattle.grammar.specs.helpers.Scans.{slice}
 use Rattle.grammar.proofs.Scans.{Run}

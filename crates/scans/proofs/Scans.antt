@@ -1,7 +1,5 @@
 -- Scans of header values: a run of a class, a word in any letter case, a decimal number under a limit, each against its grammar.
-use Rattle.std.proofs.Common.{◌≡◌, ℕ, zero, suc, ◌+◌, ◌-◌, ◌<◌, ◌≤◌, Bool, true, false, cond, ◌&&◌, ◌||◌, T, eqb, ltb, List, [], ◌∷◌, ◌++◌}
-use Rattle.std.proofs.Common.{length, get_or, take, drop, sym, refl, ap, ◌∙◌, subst, true≢false, append-nil, add-one, arith}
-use Rattle.std.proofs.Common.{drop_of_length-le, drop-cons, ltb-false, ltb-true, eqb-true}
+use Rattle.std.proofs.Common.{◌≡◌, ℕ, zero, suc, ◌+◌, ◌-◌, ◌<◌, ◌≤◌, Bool, true, false, cond, ◌&&◌, ◌||◌, T, eqb, ltb, List, [], ◌∷◌, ◌++◌, length, get_or, take, drop, sym, refl, ap, ◌∙◌, subst, true≢false, append-nil, add-one, arith, drop_of_length-le, drop-cons, ltb-false, ltb-true, eqb-true}
 use mathlib.Core.Option.{Option, none, some}
 use borrow.Author.Tests.{eqb-false}
 use Rattle.grammar.specs.Grammar.{Class, Part, Grammar, byte, part, plus, spell, fold, bytes?, lower, T-left, T-right, void}
