@@ -1,5 +1,6 @@
 // Chunked bodies in pieces, for C and Rust. Nothing is decided here.
 #![tactic(auto)]
+
 ghost use Rattle.std.specs.Prelude.{◌≡◌, length};
 ghost use Rattle.pieces.specs.Reading.{begun, state_after, taken_by, answered, output_after};
 ghost use Rattle.ffi_pieces.specs.Fields.{pieces_fields, pieces_of, handed, fed_fields};
