@@ -20,7 +20,12 @@ loop-at-preserved c =
     let byte = get_or line loop.at 0 in
     let value = c.hex_value-value.result in
     let before = ltb loop.most 16 in
-    let tells : ltb c.if-most-value.most 16 ≡ (before && hex? byte) = elim c.if-most-value.branch [ then-most-value w ↦ ap (λ (n : ℕ). ltb n 16) w.most-is ∙ most_raised byte loop.most value c.hex_value-value.ensures w.if-most-value.true | else-most-value w ↦ ap (λ (n : ℕ). ltb n 16) w.most-is ∙ most-kept byte loop.most value c.hex_value-value.ensures w.if-most-value.false ] in
+    let tells : ltb c.if-most-value.most 16 ≡ (before && hex? byte) = elim c.if-most-value.branch [
+      | then-most-value w ↦
+          ap (λ (n : ℕ). ltb n 16) w.most-is ∙ most_raised byte loop.most value c.hex_value-value.ensures w.if-most-value.true
+      | else-most-value w ↦
+          ap (λ (n : ℕ). ltb n 16) w.most-is ∙ most-kept byte loop.most value c.hex_value-value.ensures w.if-most-value.false
+    ] in
     (omega arith, every-on line loop.at c.loop-at-test.true hex? before (ltb c.if-most-value.most 16) tells loop.invariant.1)
 
 pub returns : goal.returns

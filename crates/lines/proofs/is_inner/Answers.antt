@@ -17,7 +17,10 @@ loop-at-preserved c =
     let loop = c.loop-at in
     let part = c.args.part.now in
     let byte = get_or part loop.at 0 in
-    let tells : c.if-part-at-eq10.inner ≡ (loop.inner && inner? byte) = elim c.if-part-at-eq10.branch [ then-part-at-eq10 w ↦ w.inner-is ∙ inner_stopped byte loop.inner w.if-part-at-eq10.true | else-part-at-eq10 w ↦ w.inner-is ∙ inner-kept byte loop.inner w.if-part-at-eq10.false ] in
+    let tells : c.if-part-at-eq10.inner ≡ (loop.inner && inner? byte) = elim c.if-part-at-eq10.branch [
+      | then-part-at-eq10 w ↦ w.inner-is ∙ inner_stopped byte loop.inner w.if-part-at-eq10.true
+      | else-part-at-eq10 w ↦ w.inner-is ∙ inner-kept byte loop.inner w.if-part-at-eq10.false
+    ] in
     (omega arith, every-on part loop.at c.loop-at-test.true inner? loop.inner c.if-part-at-eq10.inner tells loop.invariant.1)
 
 pub returns : goal.returns
