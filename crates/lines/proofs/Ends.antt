@@ -13,7 +13,7 @@ use Rattle.numerals.specs.Numeral.{every}
 use Rattle.numerals.proofs.Digits.{split, at_true, at-false}
 use Rattle.lines.specs.Reading.{line_end, lines_from, rest_from}
 use Rattle.lines.specs.helpers.Ends.{inner?, NoneBefore}
-use Rattle.lines.proofs.Hexes.{false-true, and-true, and-false}
+use Rattle.lines.proofs.Hexes.{false-true, and-true, and-false, every-on}
 
 end_cons : (b : ℕ) (xs : List ℕ) → line_end (b ∷ xs) ≡ cond (eqb b 10) 0 (suc (line_end xs))
 unfolding line_end
@@ -51,6 +51,15 @@ inner_stopped b t e = sym (ap (λ (u : Bool). t && not u) (eq-eqb b 10 e) ∙ an
 
 pub inner-kept : (b : ℕ) (t : Bool) → (b ≡ 10 → ⊥) → t ≡ (t && inner? b)
 inner-kept b t f = sym (ap (λ (u : Bool). t && not u) (ne_eqb b 10 f) ∙ and-true t)
+
+-- the flag of the bytes before i, and of those before i + 1
+pub inner_off : (xs : List ℕ) (i : ℕ) (t : Bool) → i < length xs → get_or xs i 0 ≡ 10
+    → (t && every inner? (drop i xs)) ≡ every inner? xs → (false && every inner? (drop (i + 1) xs)) ≡ every inner? xs
+inner_off xs i t h e k = every-on xs i h inner? t false (inner_stopped (get_or xs i 0) t e) k
+
+pub inner_on : (xs : List ℕ) (i : ℕ) (t : Bool) → i < length xs → (get_or xs i 0 ≡ 10 → ⊥)
+    → (t && every inner? (drop i xs)) ≡ every inner? xs → (t && every inner? (drop (i + 1) xs)) ≡ every inner? xs
+inner_on xs i t h f k = every-on xs i h inner? t t (inner-kept (get_or xs i 0) t f) k
 
 -- a block that has none is passed
 end_block : (n : ℕ) (xs : List ℕ) → n ≤ length xs → every inner? (take n xs) ≡ true → n + line_end (drop n xs) ≡ line_end xs
