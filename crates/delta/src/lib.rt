@@ -4,10 +4,10 @@
 ghost use Rattle.std.specs.Prelude.{◌≡◌};
 ghost use Rattle.grammar.specs.helpers.Judge.{header};
 ghost use Rattle.delta.specs.Grammar.{rules};
-ghost use Rattle.delta.specs.Reading.{verdict};
+ghost use Rattle.octets.specs.Reading.{verdict};
 ghost use Rattle.delta.specs.helpers.Scan.{AfterDigits};
 
-use octets::{MALFORMED, Refusal, VALUE_LIMIT, VALUE_TOO_LONG};
+use octets::Refusal;
 use scans::Decimal;
 
 // The largest number of seconds, and what stands for more: RFC 2616 14.6.
@@ -22,22 +22,11 @@ pub struct Seconds {
     pub capped: bool,
 }
 
-#[derive(Clone, Copy)]
-pub enum Reading {
-    Read(Seconds),
-    Refused(Refusal),
-}
-
 // One or more digits; a number above the largest is capped.
-pub fn read(s: &[u8]) -> Reading
+pub fn read(s: &[u8]) -> Result<Seconds, Refusal>
     ensures { verdict result ≡ header rules s.now }
 {
-    if s.len() > VALUE_LIMIT {
-        return Reading::Refused(Refusal {
-            number: VALUE_TOO_LONG,
-            place: VALUE_LIMIT,
-        });
-    }
+    octets::check_length(s)?;
     match scans::read_decimal(s, 0, SECONDS_LIMIT) {
         Decimal::Number { value, end } => {
             let seconds = Seconds {
@@ -53,23 +42,17 @@ pub fn read(s: &[u8]) -> Reading
             };
             read_end(s, seconds, end)
         }
-        Decimal::Missing => Reading::Refused(Refusal {
-            number: MALFORMED,
-            place: 0,
-        }),
+        Decimal::Missing => Err(Refusal::Malformed(0)),
     }
 }
 
 // Reads on from the place behind the digits, where nothing may stand.
-fn read_end(s: &[u8], seconds: Seconds, at: usize) -> Reading
+fn read_end(s: &[u8], seconds: Seconds, at: usize) -> Result<Seconds, Refusal>
     requires { AfterDigits s.now seconds at }
     ensures { verdict result ≡ header rules s.now }
 {
     if at < s.len() {
-        return Reading::Refused(Refusal {
-            number: MALFORMED,
-            place: at,
-        });
+        return Err(Refusal::Malformed(at));
     }
-    Reading::Read(seconds)
+    Ok(seconds)
 }

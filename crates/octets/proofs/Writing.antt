@@ -1,28 +1,26 @@
 -- The three ways out of a writer, for any text and any test of its argument.
-use Rattle.std.proofs.Common.{◌≡◌, ℕ, ◌<◌, ◌≤◌, Bool, true, false, List, ◌++◌, length, take, drop, sym, refl, ap, ◌∙◌, take_at, le-ltb, lt-ltb}
+use Rattle.std.proofs.Common.{◌≡◌, ℕ, ◌<◌, ◌≤◌, Bool, true, false, List, ◌++◌, Result, Ok, Err, length, take, drop, sym, refl, ap, ◌∙◌, take_at, le-ltb, lt-ltb}
 use Rattle.grammar.specs.Reading.{Verdict, value, refused}
-use Rattle.octets.specs.declared.Written.{Written}
-use Rattle.octets.specs.declared.Written.TheVariants.{Length, Refused}
-use Rattle.octets.specs.Writing.{written, output, writing}
+use Rattle.octets.specs.declared.Refusal.{Refusal}
+use Rattle.octets.specs.declared.Refusal.TheVariants.{OutOfRange, OutputTooShort}
+use Rattle.octets.specs.Reading.{verdict}
+use Rattle.octets.specs.Writing.{output, writing}
 
 module _ (outside : Bool) (text old : List ℕ) where
   -- what the promises ask of an answer and of the output
-  abbrev pub Answered : Written → List ℕ → Type 0
-  Answered r new = (written r ≡ writing outside text (length old)) × (new ≡ output (writing outside text (length old)) text old)
+  abbrev pub Answered : Result ℕ Refusal → List ℕ → Type 0
+  Answered r new = (verdict r ≡ writing outside text (length old)) × (new ≡ output (writing outside text (length old)) text old)
 
-  refuses : (n : ℕ) (r : Written) → r ≡ Refused (record { number = n; place = 0 }) → writing outside text (length old) ≡ refused n 0
-      → Answered r old
-  refuses n r e f = (ap written e ∙ sym f, sym (ap (λ (w : Verdict ℕ). output w text old) f))
+  pub refuses-argument : outside ≡ true → Answered (Err OutOfRange) old
+  refuses-argument o = let f : writing outside text (length old) ≡ refused 9 0 = rw o refl in (sym f, sym (ap (λ (w : Verdict ℕ). output w text old) f))
 
-  pub refuses-argument : (r : Written) → r ≡ Refused (record { number = 9; place = 0 }) → outside ≡ true → Answered r old
-  refuses-argument r e o = refuses 9 r e (rw o)
-
-  pub refuses-short : (r : Written) → r ≡ Refused (record { number = 8; place = 0 }) → outside ≡ false → length old < length text
-      → Answered r old
-  refuses-short r e o h = refuses 8 r e (rw (o, lt-ltb (length old) (length text) h))
+  pub refuses-short : outside ≡ false → length old < length text → Answered (Err OutputTooShort) old
+  refuses-short o h =
+      let f : writing outside text (length old) ≡ refused 8 0 = rw (o, lt-ltb (length old) (length text) h) refl in
+      (sym f, sym (ap (λ (w : Verdict ℕ). output w text old) f))
 
   pub writes-all : (n : ℕ) (new : List ℕ) → n ≡ length text → outside ≡ false → length text ≤ length old
-      → new ≡ text ++ drop (length text) old → Answered (Length n) new
+      → new ≡ text ++ drop (length text) old → Answered (Ok n) new
   writes-all n new e o h w =
       let f : writing outside text (length old) ≡ value (length text) = rw (o, le-ltb (length old) (length text) h) in
       (ap value e ∙ sym f, w ∙ sym (ap (λ (x : Verdict ℕ). output x text old) f))

@@ -1,5 +1,6 @@
 pub mod Bytes
 pub mod Numbers
+pub mod Reading
 pub mod Case
 pub mod Classes
 pub mod Writing

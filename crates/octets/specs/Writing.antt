@@ -3,13 +3,6 @@ use Rattle.std.specs.Prelude.{ℕ, Bool, cond, List, ◌++◌, length, drop, nat
 use Rattle.grammar.specs.Reading as G
 use Rattle.grammar.specs.Reading.{Verdict}
 use Rattle.grammar.specs.Refusals.{OUT_OF_RANGE, OUTPUT_TOO_SHORT}
-use Rattle.octets.specs.declared.Written.{Written}
-use Rattle.octets.specs.declared.Written.TheVariants.{Length, Refused}
-
--- document 01's number and place, or the length
-abbrev pub written : Written → Verdict ℕ
-written (Length n) = G.value n
-written (Refused r) = G.refused r.number r.place
 
 -- "they write at the front of the output, keep the rest"; a refusal writes nothing
 abbrev pub output : Verdict ℕ → List ℕ → List ℕ → List ℕ

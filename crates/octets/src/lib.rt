@@ -1,12 +1,14 @@
 // The basic rules of RFC 2616 2.2 as document 01 states them: classes of bytes, letter case.
 #![tactic(auto)]
 
-ghost use Rattle.std.specs.Prelude.{◌≡◌, ◌/◌, ◌<◌, ◌≤◌, min, true, false, length, if◌then◌else◌, slice_index};
+ghost use Rattle.std.specs.Prelude.{◌≡◌, ◌/◌, ◌<◌, ◌≤◌, true, false, length, if◌then◌else◌, slice_index, MatchResult};
 ghost use Rattle.grammar.specs.Grammar.{lower};
+ghost use Rattle.grammar.specs.Reading.{value_limit};
 ghost use Rattle.octets.specs.Bytes.{digit?, token?, content?, text?, escaped?, hex?, hex_value};
 ghost use Rattle.octets.specs.helpers.Bits.{member};
 ghost use Rattle.octets.specs.Case.{alike};
 ghost use Rattle.octets.specs.Same.{same?};
+ghost use Rattle.octets.specs.Reading.{number_of, place_of};
 
 // The longest header value.
 pub const VALUE_LIMIT: usize = 8192;
@@ -60,34 +62,89 @@ pub const FRAMED_TOO_LONG: u8 = 14;
 // Trailer field Transfer-Encoding, Content-Length or Trailer, letter case ignored; place: its colon.
 pub const FORBIDDEN_FIELD: u8 = 15;
 
-// Why an input was refused: document 01's number, and the place it names, counted from 0.
-#[derive(Clone, Copy)]
-pub struct Refusal {
-    pub number: u8,
-    pub place: usize,
+// Why an input was refused, and the place that document 01 names for it, counted from 0; a refusal without one has a fixed place.
+#[derive(Clone, Copy, Debug, PartialEq, Eq)]
+pub enum Refusal {
+    Malformed(usize),
+    NumberAboveLimit(usize),
+    NoSuchDate,
+    WrongDayName,
+    LineTooLong(usize),
+    TrailerTooLong(usize),
+    BodyTooLarge(usize),
+    OutputTooShort,
+    OutOfRange,
+    TooManyParameters(usize),
+    RepeatedAttribute(usize),
+    CommentTooDeep(usize),
+    ValueTooLong,
+    FramedTooLong(usize),
+    ForbiddenField(usize),
 }
 
-// What a writer answers: the length of what it wrote at the front of the output, or why it wrote nothing.
-#[derive(Clone, Copy)]
-pub enum Written {
-    Length(usize),
-    Refused(Refusal),
+impl Refusal {
+    // Document 01's number.
+    pub fn number(self) -> u8
+        ensures { result ≡ number_of self }
+    {
+        match self {
+            Refusal::Malformed(_) => MALFORMED,
+            Refusal::NumberAboveLimit(_) => NUMBER_ABOVE_LIMIT,
+            Refusal::NoSuchDate => NO_SUCH_DATE,
+            Refusal::WrongDayName => WRONG_DAY_NAME,
+            Refusal::LineTooLong(_) => LINE_TOO_LONG,
+            Refusal::TrailerTooLong(_) => TRAILER_TOO_LONG,
+            Refusal::BodyTooLarge(_) => BODY_TOO_LARGE,
+            Refusal::OutputTooShort => OUTPUT_TOO_SHORT,
+            Refusal::OutOfRange => OUT_OF_RANGE,
+            Refusal::TooManyParameters(_) => TOO_MANY_PARAMETERS,
+            Refusal::RepeatedAttribute(_) => REPEATED_ATTRIBUTE,
+            Refusal::CommentTooDeep(_) => COMMENT_TOO_DEEP,
+            Refusal::ValueTooLong => VALUE_TOO_LONG,
+            Refusal::FramedTooLong(_) => FRAMED_TOO_LONG,
+            Refusal::ForbiddenField(_) => FORBIDDEN_FIELD,
+        }
+    }
+
+    // The place, counted from 0.
+    pub fn place(self) -> usize
+        ensures { result ≡ place_of self }
+    {
+        match self {
+            Refusal::Malformed(place)
+            | Refusal::NumberAboveLimit(place)
+            | Refusal::LineTooLong(place)
+            | Refusal::TrailerTooLong(place)
+            | Refusal::BodyTooLarge(place)
+            | Refusal::TooManyParameters(place)
+            | Refusal::RepeatedAttribute(place)
+            | Refusal::CommentTooDeep(place)
+            | Refusal::FramedTooLong(place)
+            | Refusal::ForbiddenField(place) => place,
+            Refusal::NoSuchDate
+            | Refusal::WrongDayName
+            | Refusal::OutputTooShort
+            | Refusal::OutOfRange => 0,
+            Refusal::ValueTooLong => VALUE_LIMIT,
+        }
+    }
 }
 
-// A writer's refusal; its place is 0.
-pub fn unwritten(number: u8) -> Written
-    ensures { result ≡ Written.Refused (record { number = number; place = 0 }) }
+// Which of two values given as bytes was refused, and why.
+#[derive(Clone, Copy, Debug, PartialEq, Eq)]
+pub enum PairRefusal {
+    First(Refusal),
+    Second(Refusal),
+}
+
+// A header value that is too long is refused before it is read.
+pub fn check_length(s: &[u8]) -> Result<(), Refusal>
+    ensures { MatchResult result (λ _. length s.now ≤ value_limit) (λ e. (value_limit < length s.now) × (e ≡ Refusal.ValueTooLong)) }
 {
-    Written::Refused(Refusal { number, place: 0 })
-}
-
-// Whether two values given as bytes are the same in the sense of their comparison, or which of them was refused.
-#[derive(Clone, Copy)]
-pub enum Compared {
-    Same,
-    Different,
-    FirstRefused(Refusal),
-    SecondRefused(Refusal),
+    if s.len() > VALUE_LIMIT {
+        return Err(Refusal::ValueTooLong);
+    }
+    Ok(())
 }
 
 // A class as bits: byte b is bit b % 64 of word b / 64.
@@ -197,8 +254,8 @@ pub fn is_escaped(b: u8) -> bool
 pub fn hex_value(b: u8) -> u8
     ensures { result ≡ (if hex? b then hex_value b else 16) }
 {
-    let digit = std::num::wrapping_sub_u8(b, b'0');
-    let letter = std::num::wrapping_sub_u8(b | 32, b'a');
+    let digit = b.wrapping_sub(b'0');
+    let letter = (b | 32).wrapping_sub(b'a');
     if digit < 10 {
         digit
     } else if letter < 6 {
@@ -216,7 +273,7 @@ const LETTERS: u8 = 26;
 pub fn lower_case(b: u8) -> u8
     ensures { result ≡ lower b }
 {
-    if std::num::wrapping_sub_u8(b, b'A') < LETTERS {
+    if b.wrapping_sub(b'A') < LETTERS {
         b + 32
     } else {
         b
@@ -236,12 +293,10 @@ pub fn same_ignoring_case(a: &[u8], b: &[u8]) -> bool
     }
     // without an early exit, so that 16 bytes are compared at a time
     let mut equal = true;
-    let mut i = 0;
-    while i < a.len() {
-        if lower_case(a[i]) != lower_case(b[i]) {
+    for (i, x) in a.iter().enumerate() {
+        if lower_case(*x) != lower_case(b[i]) {
             equal = false;
         }
-        i += 1;
     }
     equal
 }
@@ -251,36 +306,15 @@ fn ends_differ(a: &[u8], b: &[u8]) -> bool
     requires { length a.now ≡ length b.now }
     ensures { result ≡ true → alike a.now b.now ≡ false }
 {
-    if a.len() == 0 {
-        return false;
+    match (a.last(), b.last()) {
+        (Some(x), Some(y)) => lower_case(*x) != lower_case(*y),
+        _ => false,
     }
-    let last = a.len() - 1;
-    if lower_case(a[last]) != lower_case(b[last]) {
-        return true;
-    }
-    false
-}
-
-// The smaller of two numbers.
-pub fn least(a: usize, b: usize) -> usize
-    ensures { result ≡ min a b }
-{
-    if a < b { a } else { b }
 }
 
 // Are two parts the same, byte for byte?
 pub fn same(a: &[u8], b: &[u8]) -> bool
     ensures { result ≡ same? a.now b.now }
 {
-    if a.len() != b.len() {
-        return false;
-    }
-    let mut i = 0;
-    while i < a.len() {
-        if a[i] != b[i] {
-            return false;
-        }
-        i += 1;
-    }
-    true
+    a == b
 }

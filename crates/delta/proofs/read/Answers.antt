@@ -1,13 +1,8 @@
 -- `delta::read` meets its contract: each answer of the decimal reading is what the grammar finds.
 use native.Mathlib.Omega.{arith}
 use mathlib.Core.Path.{sym, ◌∙◌}
-use Rattle.grammar.proofs.Loop.{header-long}
-use Rattle.delta.specs.Grammar.{rules}
 use Rattle.delta.proofs.Scan.{seconds_missing, seconds-within, seconds-beyond, seconds-small}
 use Rattle.delta.proofs.read.Goals as goal
-
-pub returns-then-s-gt-VALUE_LIMIT : goal.returns-then-s-gt-VALUE_LIMIT
-returns-then-s-gt-VALUE_LIMIT c = sym (header-long rules c.args.s.now c.if-s-gt-VALUE_LIMIT.true)
 
 pub overflow_cast-seconds : goal.overflow_cast-seconds
 overflow_cast-seconds c =
@@ -15,11 +10,11 @@ overflow_cast-seconds c =
 
 pub read_end-requires : goal.read_end-requires
 read_end-requires c =
-    seconds-within c.args.s.now c.if-s-gt-VALUE_LIMIT.false _ _ (sym c.read_decimal.ensures ∙ c.in-Number.is)
+    seconds-within c.args.s.now c.in_ok-check_length.ensures _ _ (sym c.read_decimal.ensures ∙ c.in-Number.is)
 
 pub read_end-requires-in-Above : goal.read_end-requires-in-Above
 read_end-requires-in-Above c =
-    seconds-beyond c.args.s.now c.if-s-gt-VALUE_LIMIT.false _ _ (sym c.read_decimal.ensures ∙ c.in-Above.is)
+    seconds-beyond c.args.s.now c.in_ok-check_length.ensures _ _ (sym c.read_decimal.ensures ∙ c.in-Above.is)
 
 pub returns-in-Missing : goal.returns-in-Missing
-returns-in-Missing c = sym (seconds_missing c.args.s.now c.if-s-gt-VALUE_LIMIT.false (sym c.read_decimal.ensures ∙ c.in-Missing.is))
+returns-in-Missing c = sym (seconds_missing c.args.s.now c.in_ok-check_length.ensures (sym c.read_decimal.ensures ∙ c.in-Missing.is))

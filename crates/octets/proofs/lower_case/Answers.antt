@@ -1,27 +1,20 @@
--- `octets::lower_case` meets its contract: over each span of differences both sides are computed.
-use Rattle.std.proofs.Common.{◌≡◌, ℕ, ◌+◌, ◌%◌, refl, subst, arith}
+-- `octets::lower_case` meets its contract: both sides are computed at each byte.
+use Rattle.std.proofs.Common.{◌≡◌, ℕ, ◌+◌, ◌%◌, cond, ltb, refl, arith, le-ltb, lt-ltb}
 use Rattle.grammar.specs.Grammar.{lower}
 use Rattle.octets.proofs.Spans.{by_range}
 use Rattle.octets.proofs.lower_case.Goals as goal
 
--- the byte that stands r behind A
-abbrev behind-a : ℕ → ℕ
-behind-a r = (r + 65) % 256
+picked : ℕ → ℕ
+picked b = cond (ltb ((b + 191) % 256) 26) (b + 32) b
 
-pub overflow_add-result : goal.overflow_add-result
-overflow_add-result c =
-    let e : behind-a c.wrapping_sub_u8.result ≡ c.args.b = c.wrapping_sub_u8.ensures.value in
-    omega arith
+pub returns-then-b-lt-LETTERS : goal.returns-then-b-lt-LETTERS
+unfolding lower picked
+returns-then-b-lt-LETTERS c =
+    let p : picked c.args.b ≡ lower c.args.b = by_range picked lower 0 256 refl c.args.b (omega arith) (omega arith) in
+    rw (lt-ltb ((c.args.b + 191) % 256) 26 c.if-b-lt-LETTERS.true) at p
 
-pub returns-then-wrapping_sub_u8-lt-LETTERS : goal.returns-then-wrapping_sub_u8-lt-LETTERS
-unfolding lower
-returns-then-wrapping_sub_u8-lt-LETTERS c =
-    subst (λ (b : ℕ). b + 32 ≡ lower b) c.wrapping_sub_u8.ensures.value
-    (by_range (λ (r : ℕ). behind-a r + 32) (λ (r : ℕ). lower (behind-a r)) 0 26 refl
-    c.wrapping_sub_u8.result (omega arith) (omega arith))
-
-pub returns-else-wrapping_sub_u8-lt-LETTERS : goal.returns-else-wrapping_sub_u8-lt-LETTERS
-unfolding lower
-returns-else-wrapping_sub_u8-lt-LETTERS c =
-    subst (λ (b : ℕ). b ≡ lower b) c.wrapping_sub_u8.ensures.value
-    (by_range behind-a (λ (r : ℕ). lower (behind-a r)) 26 230 refl c.wrapping_sub_u8.result (omega arith) (omega arith))
+pub returns-else-b-lt-LETTERS : goal.returns-else-b-lt-LETTERS
+unfolding lower picked
+returns-else-b-lt-LETTERS c =
+    let p : picked c.args.b ≡ lower c.args.b = by_range picked lower 0 256 refl c.args.b (omega arith) (omega arith) in
+    rw (le-ltb ((c.args.b + 191) % 256) 26 (omega (arith, c.if-b-lt-LETTERS.false))) at p
