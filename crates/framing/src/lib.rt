@@ -7,7 +7,7 @@ pub const LINE_LIMIT: usize = 1024;
 pub const TRAILER_LIMIT: usize = 8192;
 
 // Where the extensions of a chunk line stand.
-#[derive(Clone, Copy)]
+#[derive(Clone, Copy, Debug, PartialEq, Eq)]
 pub enum ExtPos {
     // before the first one, or behind the closing quote of one
     Between,
@@ -25,7 +25,7 @@ pub enum ExtPos {
 }
 
 // Where a chunk line stands: before its first digit, after digits, behind them. `value` is that of the digits so far.
-#[derive(Clone, Copy)]
+#[derive(Clone, Copy, Debug, PartialEq, Eq)]
 pub enum LinePos {
     First,
     Size { value: usize },
@@ -33,7 +33,7 @@ pub enum LinePos {
 }
 
 // Where trailer lines stand.
-#[derive(Clone, Copy)]
+#[derive(Clone, Copy, Debug, PartialEq, Eq)]
 pub enum TrailPos {
     // behind the line before, or where the trailer begins
     LineStart,
@@ -51,7 +51,7 @@ pub enum TrailPos {
 // Where a body stands. `length` counts the bytes so far of the line or the trailer, `size` is what the line gave, `left` the bytes of the
 // chunk behind the next one; `before` is the data of the chunks before the line, `total` that of all chunks, the one being read included;
 // `trailer` is the length of the trailer.
-#[derive(Clone, Copy)]
+#[derive(Clone, Copy, Debug, PartialEq, Eq)]
 pub enum State {
     Line {
         position: LinePos,
@@ -90,7 +90,7 @@ pub enum State {
 
 // What is told of a body that is whole: the bytes that it takes, the length of its data, and where its trailer stands, which ends before
 // the closing CRLF; without a trailer, the place of the closing CRLF and 0.
-#[derive(Clone, Copy)]
+#[derive(Clone, Copy, Debug, PartialEq, Eq)]
 pub struct Whole {
     pub taken: usize,
     pub length: usize,
