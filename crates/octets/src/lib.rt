@@ -185,33 +185,23 @@ const ESCAPED: Class = [0xffffffff00000200, 0x7fffffffffffffff, 0, 0];
 pub fn in_class(class: Class, b: u8) -> bool
     ensures { result ≡ member class b }
 {
-    if b >= 128 {
-        return (high_word(class, b) >> (b % 64)) % 2 == 1;
-    }
-    (low_word(class, b) >> (b % 64)) % 2 == 1
+    (word(class, b) >> (b % 64)) % 2 == 1
 }
 
-// The word that holds the bit of a byte below 128. Chosen, not indexed: the words of a constant class then stay in registers, where an
-// index has them stored for each byte. A media type with a parameter is read in 0.8 of the time.
-fn low_word(class: Class, b: u8) -> u64
-    requires { b < 128 }
+// The word that holds the bit of a byte. Chosen, not indexed: the words of a constant class then stay in registers, where an index has
+// them stored for each byte. A media type with a parameter is read in 0.8 of the time.
+fn word(class: Class, b: u8) -> u64
     ensures { result ≡ slice_index class (b / 64) }
 {
     if b < 64 {
-        return class[0];
+        class[0]
+    } else if b < 128 {
+        class[1]
+    } else if b < 192 {
+        class[2]
+    } else {
+        class[3]
     }
-    class[1]
-}
-
-// The same of any other byte.
-fn high_word(class: Class, b: u8) -> u64
-    requires { 128 ≤ b }
-    ensures { result ≡ slice_index class (b / 64) }
-{
-    if b < 192 {
-        return class[2];
-    }
-    class[3]
 }
 
 // Compared, not looked up, for speed: every number is read through it.

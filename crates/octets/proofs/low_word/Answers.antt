@@ -1,9 +1,0 @@
--- `octets::low_word` meets its contract: on each branch the quotient is the index.
-use Rattle.std.proofs.Common.{ℕ, get_or, ap, arith}
-use Rattle.octets.proofs.low_word.Goals as goal
-
-pub returns-then-b-lt64 : goal.returns-then-b-lt64
-returns-then-b-lt64 c = ap (λ (i : ℕ). get_or c.args.class i 0) (omega arith)
-
-pub returns : goal.returns
-returns c = ap (λ (i : ℕ). get_or c.args.class i 0) (omega arith)
