@@ -24,6 +24,7 @@ use Rattle.framing.proofs.Goes.{goes_data}
 use Rattle.framing.proofs.Past.{Past, past}
 use Rattle.framing.proofs.Demands.{demands}
 use Rattle.octets.specs.declared.Refusal.{Refusal}
+use Rattle.octets.specs.Reading.{number_of, place_of}
 use Rattle.chunked.specs.declared.Answer.{Answer}
 use Rattle.chunked.specs.declared.Answer.TheVariants.{More, Refused}
 use Rattle.chunked.specs.Verdict.{verdict}
@@ -212,4 +213,4 @@ module _ (xs old : List ℕ) where
     unfolding decode_output
     kept-refused {r} f =
         ap (λ (z : List ℕ). z ++ drop (length z) old)
-        (sym (demands.keeps_refused (length old) xs r.number r.place (sym e ∙ ap verdict f)))
+        (sym (demands.keeps_refused (length old) xs (number_of r) (place_of r) (sym e ∙ ap verdict f)))

@@ -2,6 +2,8 @@
 use Rattle.std.proofs.Common.{◌≡◌, ℕ, zero, suc, ◌+◌, ◌<◌, ◌≤◌, List, [], ◌∷◌, ◌++◌, length, get_or, take, drop, sym, refl, ap, ◌∙◌, subst}
 use Rattle.std.proofs.Common.{add-one, arith, length-take-le, take-suc, take-take, take-add}
 use mathlib.Core.Option.{none, some}
+use Rattle.octets.specs.declared.Refusal.{Refusal}
+use Rattle.octets.specs.Reading.{number_of, place_of}
 use Rattle.framing.specs.Answer as Framing
 use Rattle.framing.specs.Grammar.{LINE_LIMIT}
 use Rattle.framing.specs.declared.State.{State}
@@ -120,9 +122,8 @@ module _ {room : ℕ} {xs : List ℕ} where
   pub last_more : {t : ℕ} → Framing.more ≡ decode room xs → Last room xs t Ending.More
   last_more e = record { is = e; closing = tt }
 
-  pub last-refused : {t : ℕ} {e : Ending} {m i : ℕ} → e ≡ Ending.Refused (record { number = m; place = i })
-      → Framing.refused m i ≡ decode room xs → Last room xs t e
-  last-refused {t} f e = subst (Last room xs t) (sym f) (record { is = e; closing = tt })
+  pub last-refused : {t : ℕ} {r : Refusal} → Framing.refused (number_of r) (place_of r) ≡ decode room xs → Last room xs t (Ending.Refused r)
+  last-refused e = record { is = e; closing = tt }
 
   pub last-whole : {t n k : ℕ} → k + 2 ≤ n → ending_answer t (Ending.Whole n k) ≡ decode room xs → Last room xs t (Ending.Whole n k)
   last-whole h e = record { is = e; closing = h }

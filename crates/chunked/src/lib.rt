@@ -8,7 +8,6 @@ ghost use Rattle.framing.specs.declared.State.TheVariants.{Line, LineFeed, Trail
 ghost use Rattle.framing.specs.helpers.Machine.{trailer};
 ghost use Rattle.framing.specs.Reading.{decode_output, decode as decodeIn};
 ghost use Rattle.chunked.specs.Verdict.{verdict};
-ghost use Rattle.chunked.specs.declared.Ending.TheVariants.{Refused};
 ghost use Rattle.positions.specs.helpers.Ends.{cr_byte};
 ghost use Rattle.chunked.specs.helpers.Passes.{ending_answer, Closing};
 ghost use Rattle.chunked.specs.helpers.Passes.{At, WholeOf, SizeRead, LineRead, Last, LineAt, ChunkRead};
@@ -17,9 +16,7 @@ ghost use Rattle.chunked.specs.helpers.Passes.{HasSecond, SizeAt, FirstCr, SameA
 ghost use Rattle.chunked.specs.helpers.Tails.{TailAt, TailKnown, DigitsTo};
 
 use framing::{ExtPos, LINE_LIMIT, TRAILER_LIMIT, TrailPos, Whole};
-use octets::{
-    BODY_TOO_LARGE, FORBIDDEN_FIELD, LINE_TOO_LONG, MALFORMED, Refusal, TRAILER_TOO_LONG,
-};
+use octets::Refusal;
 
 // Whole: what is told of the body. More: the input may begin a body.
 #[derive(Clone, Copy)]
@@ -472,7 +469,7 @@ fn tailed_chunk(input: &[u8], tail: Tail, at: usize, left: usize) -> ChunkLine
 fn is_leading(b: u8) -> bool
     ensures { result ≡ true → (hex? b ≡ true) × (0 < hex_value b) }
 {
-    let bit = std::num::wrapping_sub_u8(b, b'0');
+    let bit = b.wrapping_sub(b'0');
     if bit >= 64 {
         return false;
     }
@@ -668,12 +665,6 @@ fn ending_answer(ending: Ending, total: usize) -> Answer
     }
 }
 
-fn refuse(number: u8, place: usize) -> Ending
-    ensures { result ≡ Refused (record { number = number; place = place }) }
-{
-    Ending::Refused(Refusal { number, place })
-}
-
 // Reads the chunk at `at`, behind chunks with `total` bytes of data, and passes over its data.
 fn chunk(input: &[u8], at: usize, total: usize, room: usize) -> Found
     requires { At room input.now (Line First 0 total) at }
@@ -687,13 +678,13 @@ fn chunk(input: &[u8], at: usize, total: usize, room: usize) -> Found
             }
             let end = start + size;
             if input[end] != b'\r' {
-                return Found::Over(refuse(MALFORMED, end));
+                return Found::Over(Ending::Refused(Refusal::Malformed(end)));
             }
             if input.len() - end <= 1 {
                 return Found::Over(Ending::More);
             }
             if input[end + 1] != b'\n' {
-                return Found::Over(refuse(MALFORMED, end + 1));
+                return Found::Over(Ending::Refused(Refusal::Malformed(end + 1)));
             }
             Found::Data { size, start }
         }
@@ -713,18 +704,18 @@ fn line(input: &[u8], start: usize, total: usize, room: usize) -> Found
         let digit = octets::hex_value(input[at]) as usize;
         if digit > 15 {
             if at == start {
-                return Found::Over(refuse(MALFORMED, at));
+                return Found::Over(Ending::Refused(Refusal::Malformed(at)));
             }
             return extensions(input, start, at, value, total, room);
         }
         if at - start == LINE_LIMIT {
-            return Found::Over(refuse(LINE_TOO_LONG, at));
+            return Found::Over(Ending::Refused(Refusal::LineTooLong(at)));
         }
         if value > left / 16 {
-            return Found::Over(refuse(BODY_TOO_LARGE, at));
+            return Found::Over(Ending::Refused(Refusal::BodyTooLarge(at)));
         }
         if digit > left - value * 16 {
-            return Found::Over(refuse(BODY_TOO_LARGE, at));
+            return Found::Over(Ending::Refused(Refusal::BodyTooLarge(at)));
         }
         value = value * 16 + digit;
         at += 1;
@@ -752,14 +743,14 @@ fn extensions(
             if positions::ext_ends(pos) {
                 return line_feed(input, line, at + 1, size, total, room);
             }
-            return Found::Over(refuse(MALFORMED, at));
+            return Found::Over(Ending::Refused(Refusal::Malformed(at)));
         }
         pos = positions::ext_step(pos, byte);
         if !positions::ext_live(pos) {
-            return Found::Over(refuse(MALFORMED, at));
+            return Found::Over(Ending::Refused(Refusal::Malformed(at)));
         }
         if at - line == LINE_LIMIT {
-            return Found::Over(refuse(LINE_TOO_LONG, at));
+            return Found::Over(Ending::Refused(Refusal::LineTooLong(at)));
         }
         at += 1;
     }
@@ -775,7 +766,7 @@ fn line_feed(input: &[u8], line: usize, at: usize, size: usize, total: usize, ro
         return Found::Over(Ending::More);
     }
     if input[at] != b'\n' {
-        return Found::Over(refuse(MALFORMED, at));
+        return Found::Over(Ending::Refused(Refusal::Malformed(at)));
     }
     if size == 0 {
         return Found::Over(trailer(input, at + 1, total, room));
@@ -816,13 +807,13 @@ fn trailer(input: &[u8], start: usize, total: usize, room: usize) -> Ending
         }
         pos = positions::trail_step(pos, byte);
         if !positions::trail_live(pos) {
-            return refuse(MALFORMED, at);
+            return Ending::Refused(Refusal::Malformed(at));
         }
         if at - start == TRAILER_LIMIT {
-            return refuse(TRAILER_TOO_LONG, at);
+            return Ending::Refused(Refusal::TrailerTooLong(at));
         }
         if positions::is_forbidden(pos) {
-            return refuse(FORBIDDEN_FIELD, at);
+            return Ending::Refused(Refusal::ForbiddenField(at));
         }
         at += 1;
     }
@@ -838,7 +829,7 @@ fn close(input: &[u8], start: usize, end: usize, total: usize, room: usize) -> E
         return Ending::More;
     }
     if input[end + 1] != b'\n' {
-        return refuse(MALFORMED, end + 1);
+        return Ending::Refused(Refusal::Malformed(end + 1));
     }
     Ending::Whole {
         taken: end + 2,

@@ -27,7 +27,7 @@ returns-then-input-start c =
 pub returns-then-input-end-ne13 : goal.returns-then-input-end-ne13
 returns-then-input-end-ne13 c =
     let p = (goal.at.returns-then-input-end-ne13 c).Else-input-start in
-    last-refused c.refuse.ensures (cr-refused (behind p) (omega arith) c.if-input-end-ne13.true)
+    last-refused (cr-refused (behind p) (omega arith) c.if-input-end-ne13.true)
 
 pub returns-then-input-end-le1 : goal.returns-then-input-end-le1
 returns-then-input-end-le1 c =
@@ -37,7 +37,7 @@ returns-then-input-end-le1 c =
 pub returns-then-input-end-ne10 : goal.returns-then-input-end-ne10
 returns-then-input-end-ne10 c =
     let p = (goal.at.returns-then-input-end-ne10 c).Else-input-start in
-    last-refused c.refuse-then-input-end-ne10.ensures
+    last-refused
     (lf-refused (behind p) (omega arith) c.if-input-end-ne13.false (omega arith) c.if-input-end-ne10.true)
 
 pub returns-in-Over : goal.returns-in-Over

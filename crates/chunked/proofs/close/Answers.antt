@@ -13,7 +13,7 @@ returns-then-input-end-le1 c = last_more (at_more c.requires.1 (omega arith))
 pub returns-then-input-end-ne10 : goal.returns-then-input-end-ne10
 returns-then-input-end-ne10 c =
     let p = c.requires in
-    last-refused c.refuse.ensures (close-refused p.0 p.1 (omega arith) c.if-input-end-ne10.true)
+    last-refused (close-refused p.0 p.1 (omega arith) c.if-input-end-ne10.true)
 
 pub returns : goal.returns
 returns c =

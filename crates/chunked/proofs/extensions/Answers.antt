@@ -25,14 +25,14 @@ line_feed-requires c =
 
 pub returns-then-byte-eq13 : goal.returns-then-byte-eq13
 returns-then-byte-eq13 c =
-    last-refused c.refuse.ensures
+    last-refused
     (ext-unended c.loop-at.invariant c.loop-at-test.true c.if-byte-eq13.true
     (sym c.ext_ends.ensures ∙ c.if-ext_ends.false))
 
 pub returns-then-not-ext_live : goal.returns-then-not-ext_live
 returns-then-not-ext_live c =
     let p = (goal.at.returns-then-not-ext_live c).After-ext_live in
-    last-refused c.refuse-then-not-ext_live.ensures
+    last-refused
     (ext_wrong c.loop-at.invariant c.loop-at-test.true c.if-byte-eq13.false (alive p ∙ c.if-not-ext_live.true))
 
 pub overflow_sub-at : goal.overflow_sub-at
@@ -40,7 +40,7 @@ overflow_sub-at c = omega (arith, c.loop-at.invariant.starts)
 
 pub returns-then-at-line-eq-LINE_LIMIT : goal.returns-then-at-line-eq-LINE_LIMIT
 returns-then-at-line-eq-LINE_LIMIT c =
-    last-refused c.refuse-then-at-line-eq-LINE_LIMIT.ensures
+    last-refused
     (ext-long c.loop-at.invariant c.loop-at-test.true c.if-byte-eq13.false
     (alive ((goal.at.returns-then-at-line-eq-LINE_LIMIT c).After-ext_live) ∙ c.if-not-ext_live.false)
     c.if-at-line-eq-LINE_LIMIT.true)

@@ -8,4 +8,4 @@ pub returns-then-bit-ge64 : goal.returns-then-bit-ge64
 returns-then-bit-ge64 c = λ e. false-true e
 
 pub returns : goal.returns
-returns c = leading c.args.b c.wrapping_sub_u8-bit.result (omega arith) (omega (arith, c.ranges.b)) c.wrapping_sub_u8-bit.ensures.value
+returns c = leading c.args.b _ (omega arith) (omega (arith, c.ranges.b)) (omega (arith, c.ranges.b))

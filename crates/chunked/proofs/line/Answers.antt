@@ -17,7 +17,7 @@ loop-at-init c = size-start c.requires
 pub returns-then-at-start : goal.returns-then-at-start
 returns-then-at-start c =
     let p = (goal.at.returns-then-at-start c).After-hex_value-digit in
-    last-refused c.refuse.ensures
+    last-refused
     (size-first c.loop-at.invariant c.loop-at-test.true c.hex_value-digit.ensures (byte p) c.if-digit-gt15.true
     c.if-at-start.true)
 
@@ -28,12 +28,12 @@ extensions-requires c =
 
 pub returns-then-at-start-eq-LINE_LIMIT : goal.returns-then-at-start-eq-LINE_LIMIT
 returns-then-at-start-eq-LINE_LIMIT c =
-    last-refused c.refuse-then-at-start-eq-LINE_LIMIT.ensures
+    last-refused
     (size-long c.loop-at.invariant c.loop-at-test.true c.hex_value-digit.ensures c.if-digit-gt15.false c.if-at-start-eq-LINE_LIMIT.true)
 
 pub returns-then-value-left : goal.returns-then-value-left
 returns-then-value-left c =
-    last-refused c.refuse-then-value-left.ensures
+    last-refused
     (size-past c.loop-at.invariant c.loop-at-test.true c.hex_value-digit.ensures c.if-digit-gt15.false c.if-at-start-eq-LINE_LIMIT.false
     (omega (arith, c.loop-at.invariant.fits)))
 
@@ -45,7 +45,7 @@ overflow_sub-left-in-loop-at c = omega (arith, c.loop-at.invariant.fits)
 
 pub returns-then-digit-left : goal.returns-then-digit-left
 returns-then-digit-left c =
-    last-refused c.refuse-then-digit-left.ensures
+    last-refused
     (size-past c.loop-at.invariant c.loop-at-test.true c.hex_value-digit.ensures c.if-digit-gt15.false c.if-at-start-eq-LINE_LIMIT.false
     (omega (arith, c.loop-at.invariant.fits)))
 

@@ -8,7 +8,7 @@ pub returns-then-input-at : goal.returns-then-input-at
 returns-then-input-at c = last_more (at_more c.requires.1 c.if-input-at.true)
 
 pub returns-then-input-at-ne10 : goal.returns-then-input-at-ne10
-returns-then-input-at-ne10 c = last-refused c.refuse.ensures (feed_refused c.requires.1 (omega arith)
+returns-then-input-at-ne10 c = last-refused (feed_refused c.requires.1 (omega arith)
     c.if-input-at-ne10.true)
 
 pub trailer-requires : goal.trailer-requires

@@ -30,19 +30,19 @@ close-requires c = (
 pub returns-then-not-trail_live : goal.returns-then-not-trail_live
 returns-then-not-trail_live c =
     let p = (goal.at.returns-then-not-trail_live c).After-trail_step-pos in
-    last-refused c.refuse.ensures (trail_wrong (into p) (sym c.trail_live.ensures ∙ c.if-not-trail_live.true))
+    last-refused (trail_wrong (into p) (sym c.trail_live.ensures ∙ c.if-not-trail_live.true))
 
 pub returns-then-at-start-eq-TRAILER_LIMIT : goal.returns-then-at-start-eq-TRAILER_LIMIT
 returns-then-at-start-eq-TRAILER_LIMIT c =
     let p = (goal.at.returns-then-at-start-eq-TRAILER_LIMIT c).After-trail_step-pos in
     let q = (goal.at.returns-then-at-start-eq-TRAILER_LIMIT c).Else-not-trail_live in
-    last-refused c.refuse-then-at-start-eq-TRAILER_LIMIT.ensures (trail_long (into p) (alive q) c.if-at-start-eq-TRAILER_LIMIT.true)
+    last-refused (trail_long (into p) (alive q) c.if-at-start-eq-TRAILER_LIMIT.true)
 
 pub returns-then-is_forbidden : goal.returns-then-is_forbidden
 returns-then-is_forbidden c =
     let p = (goal.at.returns-then-is_forbidden c).After-trail_step-pos in
     let q = (goal.at.returns-then-is_forbidden c).Else-not-trail_live in
-    last-refused c.refuse-then-is_forbidden.ensures
+    last-refused
     (trail_forbidden (into p) (alive q) c.if-at-start-eq-TRAILER_LIMIT.false (sym c.is_forbidden.ensures ∙ c.if-is_forbidden.true))
 
 pub loop-at-preserved : goal.loop-at-preserved

@@ -3,6 +3,7 @@ use Rattle.std.specs.Prelude.{◌≡◌, ℕ, ◌+◌, ◌-◌, ◌*◌, ◌<◌
 use Rattle.std.specs.Prelude.{slice_range}
 use Prim.Native.Char.{code}
 use Rattle.octets.specs.Bytes.{hex?}
+use Rattle.octets.specs.Reading.{number_of, place_of}
 use Rattle.framing.specs.Answer.{Answer, whole, more, refused}
 use Rattle.framing.specs.Grammar as G
 use Rattle.framing.specs.Grammar.{crlf, LINE_LIMIT}
@@ -47,7 +48,7 @@ pub record Laid (xs old new : List ℕ) (j o v len : ℕ) : Type 0 where
 abbrev pub ending_answer : ℕ → Ending → Answer Whole
 ending_answer t (Ending.Whole n k) = whole (record { taken = n; length = t; trailer_start = n - 2 - k; trailer_length = k })
 ending_answer t Ending.More = more
-ending_answer t (Ending.Refused r) = refused r.number r.place
+ending_answer t (Ending.Refused r) = refused (number_of r) (place_of r)
 
 -- the trailer and CR LF are among the bytes
 abbrev pub Closing : Ending → Type 0
