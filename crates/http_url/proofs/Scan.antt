@@ -1,5 +1,5 @@
 -- The reader's scans against the grammar: the scheme, the host, the port, the path, the query, the end.
-use Rattle.std.proofs.Common.{◌≡◌, ℕ, ◌+◌, ◌-◌, ◌<◌, ◌≤◌, Bool, true, false, cond, ◌&&◌, ◌||◌, ltb, List, [], ◌∷◌, ◌++◌, length, get_or, sym, refl, ap, ◌∙◌, subst, append_assoc, append-nil, arith, length-drop, length-take, ltb-false, ne_eqb}
+use Rattle.std.proofs.Common.{◌≡◌, ℕ, ◌+◌, ◌-◌, ◌<◌, ◌≤◌, Bool, true, false, cond, ◌&&◌, ◌||◌, ltb, List, [], ◌∷◌, ◌++◌, Some, None, Ok, Err, length, get_or, sym, refl, ap, ◌∙◌, subst, append_assoc, append-nil, arith, length-drop, length-take, ltb-false, ne_eqb}
 use mathlib.Core.Option.{Option, none, some}
 use Rattle.grammar.specs.Grammar.{Part, Grammar, void, empty, byte, ◌⨾◌, star, part, rest}
 use Rattle.grammar.specs.helpers.Derivative.{deriv}
@@ -20,8 +20,8 @@ use Rattle.scans.specs.helpers.Decimals.{decimal_at}
 use Rattle.scans.proofs.Runs.{run_is}
 use Rattle.scans.proofs.Scans.{number_of, number_fits, missing_of, above_of, number-limits, word-reads}
 use Rattle.http_url.specs.declared.Url.{Url}
-use Rattle.http_url.specs.declared.Place.TheVariants.{Absent, At}
-use Rattle.http_url.specs.declared.Ending.TheVariants.{Ends, Breaks}
+use Rattle.octets.specs.declared.Refusal.{Refusal}
+use Rattle.octets.specs.Reading as R
 use Rattle.http_url.specs.Bytes.{HOST, PATH, QUERY, host?, unreserved?, path?, query?}
 use Rattle.http_url.specs.Grammar as G
 use Rattle.http_url.specs.Grammar.{Name, host, port, path, query, text_of, query_part, path_part, port_part, host_part}
@@ -239,11 +239,11 @@ module _ (s : List ℕ) (e n i : ℕ) (a : BeforePath s e n i) where
       slashed =
           a.reads ∙ goes_on rules s (heads s e a.digits i) path_part i begun at (slash (get_or s i 0) h (slice-one s i at)) refl (path-quiet i (slice s i (i + 1)))
 
-      pub path-breaks : (q : ℕ) → Found path? s (i + 1) (Breaks q) → header rules s ≡ refused 1 q
+      pub path-breaks : (q : Refusal) → Found path? s (i + 1) (Err q) → header rules s ≡ refused (R.number_of q) (R.place_of q)
       path-breaks q w =
           slashed ∙ text-breaks rules s (heads s e a.digits i) path i PATH path_no_percent query_part refl refl path-apart percent_apart path-quiet (i + 1) q (omega arith) w
 
-      pub path-reads : (f : ℕ) → Found path? s (i + 1) (Ends f) → BeforeQuery s e n i f
+      pub path-reads : (f : ℕ) → Found path? s (i + 1) (Ok f) → BeforeQuery s e n i f
       path-reads f w = record {
         before = a;
         some = omega (arith, stretch_up path? s (i + 1) f w.0);
@@ -264,7 +264,7 @@ module _ (s : List ℕ) (e n i f : ℕ) (a : BeforeQuery s e n i f) where
       ≡ record {
         host = record { start = 7; length = e - 7 };
         port = n;
-        path = At (record { start = i; length = f - i });
+        path = Some (record { start = i; length = f - i });
         query = place (named is_query qs);
       }
   valued qs g h =
@@ -272,7 +272,7 @@ module _ (s : List ℕ) (e n i f : ℕ) (a : BeforeQuery s e n i f) where
       ∙ headed s e n i a.before a.before.digits (path_at s i f ∷ qs) a.before.is g ∙ rw path-length
 
   pub query-absent : length s ≤ f → header rules s
-      ≡ value (record { host = record { start = 7; length = e - 7 }; port = n; path = At (record { start = i; length = f - i }); query = Absent })
+      ≡ value (record { host = record { start = 7; length = e - 7 }; port = n; path = Some (record { start = i; length = f - i }); query = None })
   query-absent h =
       a.reads ∙ same-judge rules s paths query_part empty f (λ at. absurd (omega arith)) refl refl
       ∙ ends-well rules s paths f h
@@ -303,11 +303,11 @@ module _ (s : List ℕ) (e n i f : ℕ) (a : BeforeQuery s e n i f) where
           ∙ part-begins rules s paths empty refl query (text_of QUERY) (f + 1)
           ∙ ap (λ (t : List ℕ). from rules s (ahead paths (rest (record { label = query; start = f + 1; text = t }) (text_of QUERY))) (f + 1)) (sym (slice-none s (f + 1)))
 
-      pub query-breaks : (q : ℕ) → Found query? s (f + 1) (Breaks q) → header rules s ≡ refused 1 q
+      pub query-breaks : (q : Refusal) → Found query? s (f + 1) (Err q) → header rules s ≡ refused (R.number_of q) (R.place_of q)
       query-breaks q w =
           marked ∙ text-breaks rules s paths query (f + 1) QUERY query_no_percent empty refl refl (λ j b d. refl) (λ j b d. refl) query-quiet (f + 1) q (omega arith) w
 
-      module _ (q : ℕ) (w : Found query? s (f + 1) (Ends q)) where
+      module _ (q : ℕ) (w : Found query? s (f + 1) (Ok q)) where
         abbrev queries : List (Part Name)
         queries = paths ++ record { label = query; start = f + 1; text = slice s (f + 1) q } ∷ []
 
@@ -327,8 +327,8 @@ module _ (s : List ℕ) (e n i f : ℕ) (a : BeforeQuery s e n i f) where
             ≡ value (record {
               host = record { start = 7; length = e - 7 };
               port = n;
-              path = At (record { start = i; length = f - i });
-              query = At (record { start = f + 1; length = q - (f + 1) });
+              path = Some (record { start = i; length = f - i });
+              query = Some (record { start = f + 1; length = q - (f + 1) });
             })
         query-reads g =
             ended ∙ ends-well rules s queries q g

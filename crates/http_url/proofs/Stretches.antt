@@ -1,7 +1,6 @@
 -- A stretch behind another one, and of plain bytes.
-use Rattle.std.proofs.Common.{◌≡◌, ℕ, zero, suc, ◌+◌, ◌<◌, ◌≤◌, Bool, true, List, length, get_or, sym, subst, arith}
-use Rattle.http_url.specs.declared.Ending.{Ending}
-use Rattle.http_url.specs.declared.Ending.TheVariants.{Ends, Breaks}
+use Rattle.std.proofs.Common.{◌≡◌, ℕ, zero, suc, ◌+◌, ◌<◌, ◌≤◌, Bool, true, List, Result, Ok, Err, length, get_or, sym, subst, arith}
+use Rattle.octets.specs.declared.Refusal.{Refusal}
 use Rattle.http_url.specs.Bytes.{path?, query?}
 use Rattle.http_url.specs.helpers.Scan.{Stretch, empty, character, escape, Found}
 
@@ -12,9 +11,9 @@ module _ (p : ℕ → Bool) (s : List ℕ) where
   stretch_then i j e v (escape {e = f} w at q d) = escape (stretch_then i j f v w) at q d
 
   -- what is found behind a stretch is found from before it
-  pub found-behind : (i j : ℕ) → Stretch p s i j → (x : Ending) → Found p s j x → Found p s i x
-  found-behind i j v (Ends e) w = (stretch_then i j e v w.0, w.1, w.2, w.3)
-  found-behind i j v (Breaks q) w = (w.0, w.1, w.2, stretch_then i j w.0 v w.3, w.4, w.5, w.6, w.7)
+  pub found-behind : (i j : ℕ) → Stretch p s i j → (x : Result ℕ Refusal) → Found p s j x → Found p s i x
+  found-behind i j v (Ok e) w = (stretch_then i j e v w.0, w.1, w.2, w.3)
+  found-behind i j v (Err q) w = (w.0, w.1, w.2, stretch_then i j w.0 v w.3, w.4, w.5, w.6, w.7)
 
   -- n bytes more that pass the test
   pub stretch_on : (i j n : ℕ) → Stretch p s i j → j + n ≤ length s → ((k : ℕ) → k < n → p (get_or s (j + k) 0) ≡ true) → Stretch p s i (j + n)

@@ -1,5 +1,5 @@
 -- A text of a class and of escapes, as a part that has begun, against its grammar.
-use Rattle.std.proofs.Common.{◌≡◌, ℕ, zero, suc, ◌+◌, ◌<◌, ◌≤◌, Bool, true, false, eqb, ltb, List, [], ◌∷◌, ◌++◌, length, get_or, sym, refl, ap, ◌∙◌, subst, true≢false, arith, ltb-false, ltb-true, ne_eqb}
+use Rattle.std.proofs.Common.{◌≡◌, ℕ, zero, suc, ◌+◌, ◌<◌, ◌≤◌, Bool, true, false, eqb, ltb, List, [], ◌∷◌, ◌++◌, Ok, Err, length, get_or, sym, refl, ap, ◌∙◌, subst, true≢false, arith, ltb-false, ltb-true, ne_eqb}
 use mathlib.Core.Option.{none}
 use Rattle.grammar.specs.Grammar.{Class, Part, Grammar, void, byte, ◌⨾◌, rest, grown}
 use Rattle.grammar.specs.helpers.Derivative.{live, deriv, ends, then, seq, during}
@@ -9,8 +9,9 @@ use Rattle.grammar.specs.helpers.Checks.{ahead}
 use Rattle.grammar.specs.helpers.Scans.{slice, from}
 use Rattle.grammar.proofs.Scans.{slice_snoc, part-goes-on, part-ends, part-fails, part-cut_off}
 use Rattle.octets.specs.Bytes.{hex?}
+use Rattle.octets.specs.declared.Refusal.{Refusal}
+use Rattle.octets.specs.Reading.{number_of, place_of}
 use Rattle.octets.specs.Classes.{HEX}
-use Rattle.http_url.specs.declared.Ending.TheVariants.{Ends, Breaks}
 use Rattle.http_url.specs.Grammar.{Name, text_of}
 use Rattle.http_url.specs.helpers.Scan.{Hexes, Stretch, empty as nothing, character, escape as escaped, Found}
 
@@ -148,14 +149,14 @@ module _ {A : Type 0} (r : Rules Name A) (s : List ℕ) (cs : List (Part Name)) 
   walk i p e (escaped {e = f} w at q d) = walk i p f w ∙ step-escape f (omega (arith, stretch_up c.has s i f w)) at q d
 
   -- the text that stands at i ends at e
-  pub text-ends : (i e : ℕ) → a ≤ i → Found c.has s i (Ends e)
+  pub text-ends : (i e : ℕ) → a ≤ i → Found c.has s i (Ok e)
       → reading i (text_of c) ≡ from r s (ahead (cs ++ upto e ∷ []) g) e
   text-ends i e p w =
       walk i p e w.0
       ∙ part-ends r s cs g l (upto e) (text_of c) e (λ at. text-other c no_percent e (get_or s e 0) (w.2 at) (w.3 at)) refl refl
 
   -- or breaks off
-  pub text-breaks : (i q : ℕ) → a ≤ i → Found c.has s i (Breaks q) → reading i (text_of c) ≡ refused 1 q
-  text-breaks i q p w =
+  pub text-breaks : (i : ℕ) (x : Refusal) → a ≤ i → Found c.has s i (Err x) → reading i (text_of c) ≡ refused (number_of x) (place_of x)
+  text-breaks i x p w =
       walk i p w.0 w.3
-      ∙ breaks_off w.0 (omega (arith, stretch_up c.has s i w.0 w.3)) w.4 w.5 w.1 w.6 w.7 ∙ ap (refused 1) (sym w.2)
+      ∙ breaks_off w.0 (omega (arith, stretch_up c.has s i w.0 w.3)) w.4 w.5 w.1 w.6 w.7 ∙ ap (λ (z : Refusal). refused (number_of z) (place_of z)) (sym w.2)

@@ -1,6 +1,7 @@
 -- http_URL = "http:" "//" host [ ":" port ] [ path [ "?" query ] ]: RFC 2616 3.2.2 as document 01 states it. The scheme is in any letter
 -- case; the port is at most 65,535.
-use Rattle.std.specs.Prelude.{ℕ, Bool, true, false, cond, List, [], ◌∷◌, length}
+use Rattle.std.specs.Prelude as P
+use Rattle.std.specs.Prelude.{ℕ, Bool, true, false, cond, List, [], ◌∷◌, Some, None, length}
 use Prim.Native.Char.{code}
 use Rattle.std.proofs.Math.Option.{Option, none, some}
 use Rattle.grammar.specs.Grammar.{Class, Part, Grammar, byte, ◌⨾◌, ◌∣◌, star, plus, opt, part, just, spell}
@@ -10,8 +11,6 @@ use Rattle.octets.specs.Classes.{DIGIT, HEX}
 use Rattle.octets.specs.Numbers.{number, number_limit}
 use Rattle.http_url.specs.Bytes.{HOST, PATH, QUERY}
 use Rattle.http_url.specs.declared.Span.{Span}
-use Rattle.http_url.specs.declared.Place.{Place}
-use Rattle.http_url.specs.declared.Place.TheVariants.{Absent, At}
 use Rattle.http_url.specs.declared.Url.{Url}
 
 pub data Name : Type 0 where
@@ -98,9 +97,9 @@ abbrev pub host_span : Option (Part Name) → Span
 host_span none = record { start = 0; length = 0 }
 host_span (some c) = span c
 
-abbrev pub place : Option (Part Name) → Place
-place none = Absent
-place (some c) = At (span c)
+abbrev pub place : Option (Part Name) → P.Option Span
+place none = None
+place (some c) = Some (span c)
 
 abbrev pub value : List (Part Name) → Url
 value ps = record {

@@ -1,5 +1,5 @@
 -- `http_url::is_plain` meets its contract: computed over all bytes, one that becomes one of a to z is in a path.
-use Rattle.std.proofs.Common.{◌≡◌, ℕ, ◌+◌, ◌%◌, ◌<◌, ◌≤◌, Bool, true, cond, leb, refl, ap, ◌∙◌, arith, le-leb}
+use Rattle.std.proofs.Common.{◌≡◌, ℕ, ◌+◌, ◌%◌, ◌<◌, ◌≤◌, Bool, true, cond, leb, refl, ap, ◌∙◌, arith, le-leb, ltb-true}
 use Rattle.grammar.specs.Grammar.{lower}
 use Rattle.octets.specs.Bytes.{within, digit?, letter?}
 use Rattle.octets.proofs.Spans.{by_range}
@@ -21,10 +21,9 @@ plain-path b n s z h k =
     chosen n (path? b) (ap (λ (m : ℕ). cond (leb 97 m) (cond (leb m 122) (path? b) true) true) z
     ∙ by_range in_path (λ (m : ℕ). true) 0 256 refl b (omega arith) (omega arith)) h k
 
-pub returns-then-wrapping_sub_u8-lt26 : goal.returns-then-wrapping_sub_u8-lt26
+pub returns : goal.returns
 unfolding small-letter
-returns-then-wrapping_sub_u8-lt26 c e =
+returns c e =
     let l = c.lower_case in
-    let b = c.args.b in
-    let w : (c.wrapping_sub_u8.result + 97) % 256 ≡ l.result = c.wrapping_sub_u8.ensures.value in
-    plain-path b l.result (omega arith) (l.ensures ∙ ap lower c.folded.ensures) (omega arith) (omega arith)
+    let h = ltb-true _ _ e in
+    plain-path c.args.b l.result (omega arith) (l.ensures ∙ ap lower c.folded.ensures) (omega arith) (omega arith)

@@ -8,19 +8,10 @@ use Rattle.http_url.proofs.plain_end.Goals as goal
 pub loop-i-init : goal.loop-i-init
 loop-i-init c = record { plain = empty; within = c.requires }
 
-pub returns-then-s-i-lt-BLOCK : goal.returns-then-s-i-lt-BLOCK
-returns-then-s-i-lt-BLOCK c = record { plain = c.loop-i.invariant.plain; within = c.loop-i.invariant.within }
-
-pub returns-then-not-are_plain : goal.returns-then-not-are_plain
-returns-then-not-are_plain c = record { plain = c.loop-i.invariant.plain; within = c.loop-i.invariant.within }
-
 pub loop-i-preserved : goal.loop-i-preserved
 loop-i-preserved c =
     let l = c.loop-i in
     let x = c.args in record {
-      plain = stretch_on path? x.s.now x.from l.i 32 l.invariant.plain (omega arith) (c.are_plain.ensures c.if-not-are_plain.false);
+      plain = stretch_on path? x.s.now x.from l.i 32 l.invariant.plain (omega arith) (c.are_plain.ensures c.if-are_plain.true);
       within = omega arith;
     }
-
-pub returns : goal.returns
-returns c = record { plain = c.loop-i.invariant.plain; within = c.loop-i.invariant.within }

@@ -1,35 +1,27 @@
 -- `http_url::read_port` meets its contract: each way out is what the grammar leaves there.
 use Rattle.std.proofs.Common.{sym, arith}
-use Rattle.http_url.proofs.Scan.{port-absent, port-passes, port-small, port-reads, port-empty}
+use Rattle.http_url.proofs.Scan.{port-passes, port-small, port-reads, port-empty}
 use Rattle.http_url.proofs.read_port.Goals as goal
-
-pub returns-then-s-host_end : goal.returns-then-s-host_end
-returns-then-s-host_end c =
-    port-absent c.args.s.now c.args.host_end c.requires (λ at. absurd (omega (arith, c.if-s-host_end.true)))
-
-pub returns-then-s-host_end-ne58 : goal.returns-then-s-host_end-ne58
-returns-then-s-host_end-ne58 c =
-    port-absent c.args.s.now c.args.host_end c.requires (λ at. c.if-s-host_end-ne58.true)
 
 pub overflow_cast-result : goal.overflow_cast-result
 overflow_cast-result c =
     let x = c.args in
     let n = c.in-Number in
-    let small = port-small x.s.now x.host_end c.requires c.if-s-host_end.false c.if-s-host_end-ne58.false in
+    let small = port-small x.s.now x.host_end c.requires c.if-host_end-s.false c.if-s-host_end-ne58.false in
     omega (arith, small n.value n.end (sym n.ensures))
 
 pub returns-in-Number : goal.returns-in-Number
 returns-in-Number c =
     let x = c.args in
     let n = c.in-Number in
-    port-reads x.s.now x.host_end c.requires c.if-s-host_end.false c.if-s-host_end-ne58.false n.value n.end (sym n.ensures)
+    port-reads x.s.now x.host_end c.requires c.if-host_end-s.false c.if-s-host_end-ne58.false n.value n.end (sym n.ensures)
 
 pub returns-in-Above : goal.returns-in-Above
 returns-in-Above c =
     let x = c.args in
-    port-passes x.s.now x.host_end c.requires c.if-s-host_end.false c.if-s-host_end-ne58.false _ _ (sym c.in-Above.ensures)
+    port-passes x.s.now x.host_end c.requires c.if-host_end-s.false c.if-s-host_end-ne58.false _ _ (sym c.in-Above.ensures)
 
 pub returns-in-Missing : goal.returns-in-Missing
 returns-in-Missing c =
     let x = c.args in
-    port-empty x.s.now x.host_end c.requires c.if-s-host_end.false c.if-s-host_end-ne58.false (sym c.in-Missing.ensures)
+    port-empty x.s.now x.host_end c.requires c.if-host_end-s.false c.if-s-host_end-ne58.false (sym c.in-Missing.ensures)

@@ -1,5 +1,5 @@
 -- `http_url::text_end` meets its contract: what was passed is a stretch.
-use Rattle.std.proofs.Common.{◌≡◌, ◌+◌, get_or, sym, refl, ◌∙◌, subst, arith}
+use Rattle.std.proofs.Common.{◌≡◌, ◌+◌, get_or, sym, ◌∙◌, subst, arith}
 use Rattle.http_url.specs.helpers.Scan.{Hexes, empty, character, escape}
 use Rattle.http_url.proofs.text_end.Goals as goal
 
@@ -23,24 +23,3 @@ loop-i-preserved c =
     let two : c.hex_digits-digits.result ≡ 2 = omega (arith, w.few, c.if-digits-lt2.false) in
     let h : Hexes c.args.s.now (l.i + 1) 2 = subst (Hexes c.args.s.now (l.i + 1)) two w in
     (omega (arith, h.within), λ p b. escape (l.invariant.1 p b) c.loop-i-test.true c.if-b-eq37.true h)
-
-pub returns-then-digits-lt2 : goal.returns-then-digits-lt2
-returns-then-digits-lt2 c p b =
-    let l = c.loop-i in
-    let d = c.hex_digits-digits in
-    (l.i, d.result, refl, l.invariant.1 p b, c.loop-i-test.true, c.if-b-eq37.true, d.ensures, c.if-digits-lt2.true)
-
-pub returns-else-b-eq37 : goal.returns-else-b-eq37
-returns-else-b-eq37 c p b =
-    let l = c.loop-i in
-    let s = c.args.s.now in (
-      l.invariant.1 p b,
-      l.invariant.0,
-      λ q. sym (b (get_or s l.i 0) (omega (arith, c.type_inv.s l.i))) ∙ sym c.in_class.ensures ∙ c.if-in_class.false,
-      λ q. c.if-b-eq37.false,
-    )
-
-pub returns : goal.returns
-returns c p b =
-    let l = c.loop-i in
-    (l.invariant.1 p b, l.invariant.0, λ q. absurd (omega (arith, c.loop-i-test.false)), λ q. absurd (omega (arith, c.loop-i-test.false)))

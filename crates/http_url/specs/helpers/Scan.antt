@@ -1,21 +1,20 @@
 -- For the contracts of the reader's helpers.
-use Rattle.std.specs.Prelude.{◌≡◌, ℕ, ◌+◌, ◌-◌, ◌<◌, ◌≤◌, Bool, true, false, List, [], ◌∷◌, ◌++◌, length, ◌≢◌, slice_index}
+use Rattle.std.specs.Prelude as P
+use Rattle.std.specs.Prelude.{◌≡◌, ℕ, ◌+◌, ◌-◌, ◌<◌, ◌≤◌, Bool, true, false, List, [], ◌∷◌, ◌++◌, Result, Ok, Err, length, ◌≢◌, slice_index}
 use Prim.Native.Char.{code}
 use Rattle.std.proofs.Math.Option.{Option, none, some}
 use Rattle.grammar.specs.Grammar.{Part, ◌⨾◌}
 use Rattle.grammar.specs.Reading.{refused}
-use Rattle.grammar.specs.Refusals.{NUMBER_ABOVE_LIMIT}
 use Rattle.grammar.specs.helpers.Checks.{ahead}
 use Rattle.grammar.specs.helpers.Judge.{header}
 use Rattle.grammar.specs.helpers.Scans.{slice, from}
 use Rattle.octets.specs.Bytes.{hex?}
+use Rattle.octets.specs.declared.Refusal.{Refusal}
+use Rattle.octets.specs.declared.Refusal.TheVariants.{Malformed}
+use Rattle.octets.specs.Reading.{number_of, place_of}
 use Rattle.octets.specs.Numbers.{above?}
-use Rattle.http_url.specs.declared.Place.{Place}
+use Rattle.http_url.specs.declared.Span.{Span}
 use Rattle.http_url.specs.declared.Url.{Url}
-use Rattle.http_url.specs.declared.Port.{Port}
-use Rattle.http_url.specs.declared.Port.TheVariants.{Read, Above}
-use Rattle.http_url.specs.declared.Ending.{Ending}
-use Rattle.http_url.specs.declared.Ending.TheVariants.{Ends, Breaks}
 use Rattle.http_url.specs.Grammar.{Name, host, port, path, port_part, path_part, query_part, port_text, default_port}
 use Rattle.http_url.specs.Grammar.{is_port, largest_port, rules}
 
@@ -33,11 +32,11 @@ pub data Stretch (p : ℕ → Bool) (s : List ℕ) (i : ℕ) : ℕ → Type 0 wh
   escape : {e : ℕ} → Stretch p s i e → e < length s → slice_index s e ≡ code "%" → Hexes s (e + 1) 2 → Stretch p s i (e + 3)
 
 -- the stretch that stands at i ends there, or breaks off there inside an escape
-abbrev pub Found : (ℕ → Bool) → List ℕ → ℕ → Ending → Type 0
-Found p s i (Ends e) =
+abbrev pub Found : (ℕ → Bool) → List ℕ → ℕ → Result ℕ Refusal → Type 0
+Found p s i (Ok e) =
     Stretch p s i e × (e ≤ length s) × (e < length s → p (slice_index s e) ≡ false) × (e < length s → slice_index s e ≢ code "%")
-Found p s i (Breaks q) =
-    (j : ℕ) × (n : ℕ) × (q ≡ (j + 1) + n) × Stretch p s i j × (j < length s) × (slice_index s j ≡ code "%") × Hexes s (j + 1) n × (n < 2)
+Found p s i (Err r) =
+    (j : ℕ) × (n : ℕ) × (r ≡ Malformed ((j + 1) + n)) × Stretch p s i j × (j < length s) × (slice_index s j ≡ code "%") × Hexes s (j + 1) n × (n < 2)
 
 -- the host begins behind the scheme
 abbrev pub host_start : ℕ
@@ -46,7 +45,7 @@ host_start = 7
 abbrev pub host_at : List ℕ → ℕ → Part Name
 host_at s e = record { label = host; start = host_start; text = slice s host_start e }
 
-abbrev pub url_with : (e n : ℕ) (p q : Place) → Url
+abbrev pub url_with : (e n : ℕ) (p q : P.Option Span) → Url
 url_with e n p q = record { host = record { start = host_start; length = e - host_start }; port = n; path = p; query = q }
 
 -- the host stands before the place e, and the answer is what is found from there on
@@ -76,9 +75,9 @@ pub record BeforePath (s : List ℕ) (e n i : ℕ) : Type 0 where
   pub reads : header rules s ≡ from rules s (ahead (heads s e digits i) path_part) i
 
 -- the port was read, or passes its limit
-abbrev pub PortRead : List ℕ → ℕ → Port → Type 0
-PortRead s e (Read n i) = BeforePath s e n i
-PortRead s e (Above x) = header rules s ≡ refused NUMBER_ABOVE_LIMIT x
+abbrev pub PortRead : List ℕ → ℕ → Result (ℕ × ℕ) Refusal → Type 0
+PortRead s e (Ok v) = BeforePath s e v.0 v.1
+PortRead s e (Err r) = header rules s ≡ refused (number_of r) (place_of r)
 
 abbrev pub path_at : List ℕ → ℕ → ℕ → Part Name
 path_at s i f = record { label = path; start = i; text = slice s i f }
