@@ -45,10 +45,10 @@ fn copy_rest(dst: &mut [u8], src: &[u8], from: usize)
     let len = src.len();
     let mut at = from;
     while len - at > 16 {
-        copy_block(dst, src, at);
+        copy_block::<16>(dst, src, at);
         at += 16;
     }
-    copy_block(dst, src, len - 16);
+    copy_block::<16>(dst, src, len - 16);
 }
 
 // Copies four blocks at a time as long as more than these is left, and gives how many bytes that were (with `same_line` of `chunked`, 0.8
@@ -60,10 +60,10 @@ fn copy_wide(dst: &mut [u8], src: &[u8]) -> usize
     let len = src.len();
     let mut at = 0;
     while len - at > 64 {
-        copy_block(dst, src, at);
-        copy_block(dst, src, at + 16);
-        copy_block(dst, src, at + 32);
-        copy_block(dst, src, at + 48);
+        copy_block::<16>(dst, src, at);
+        copy_block::<16>(dst, src, at + 16);
+        copy_block::<16>(dst, src, at + 32);
+        copy_block::<16>(dst, src, at + 48);
         at += 64;
     }
     at
@@ -81,10 +81,10 @@ fn copy_few(dst: &mut [u8], src: &[u8])
         return;
     }
     let last = len - 4;
-    copy_four(dst, src, 0);
-    copy_four(dst, src, octets::least(4, last));
-    copy_four(dst, src, octets::least(8, last));
-    copy_four(dst, src, last);
+    copy_block::<4>(dst, src, 0);
+    copy_block::<4>(dst, src, last.min(4));
+    copy_block::<4>(dst, src, last.min(8));
+    copy_block::<4>(dst, src, last);
 }
 
 // One byte at a time.
@@ -92,76 +92,16 @@ fn copy_bytes(dst: &mut [u8], src: &[u8])
     requires { length src.now ≤ length dst.old }
     ensures { dst.new ≡ src.now ++ drop (length src.now) dst.old }
 {
-    let mut i = 0;
-    while i < src.len() {
-        dst[i] = src[i];
-        i += 1;
+    for (i, byte) in src.iter().enumerate() {
+        dst[i] = *byte;
     }
 }
 
-// The block at `at`.
-fn copy_block(dst: &mut [u8], src: &[u8], at: usize)
-    requires { (length src.now ≤ length dst.old) × (at + 16 ≤ length src.now) }
-    ensures { dst.new ≡ block_at 16 src.now dst.old at }
+// The block of `N` bytes at `at`: as `N` is a constant, one wide move.
+fn copy_block<const N: usize>(dst: &mut [u8], src: &[u8], at: usize)
+    requires { (length src.now ≤ length dst.old) × (at + N ≤ length src.now) }
+    ensures { dst.new ≡ block_at N src.now dst.old at }
 {
-    let end = at + 16;
-    put_block(&mut dst[at..end], block(&src[at..end]));
-}
-
-// The 16 bytes of a block, by value: they are read before any is written, so that a copy is one wide move.
-fn block(src: &[u8]) -> [u8; 16]
-    requires { length src.now ≡ 16 }
-    ensures { result ≡ src.now }
-{
-    let mut bytes = [0u8; 16];
-    let mut i = 0;
-    while i < 16 {
-        bytes[i] = src[i];
-        i += 1;
-    }
-    bytes
-}
-
-fn put_block(dst: &mut [u8], bytes: [u8; 16])
-    requires { (length dst.old ≡ 16) × (length bytes ≡ 16) }
-    ensures { dst.new ≡ bytes }
-{
-    let mut i = 0;
-    while i < 16 {
-        dst[i] = bytes[i];
-        i += 1;
-    }
-}
-
-// The block of 4 bytes at `at`.
-fn copy_four(dst: &mut [u8], src: &[u8], at: usize)
-    requires { (length src.now ≤ length dst.old) × (at + 4 ≤ length src.now) }
-    ensures { dst.new ≡ block_at 4 src.now dst.old at }
-{
-    let end = at + 4;
-    put_four(&mut dst[at..end], four(&src[at..end]));
-}
-
-fn four(src: &[u8]) -> [u8; 4]
-    requires { length src.now ≡ 4 }
-    ensures { result ≡ src.now }
-{
-    let mut bytes = [0u8; 4];
-    let mut i = 0;
-    while i < 4 {
-        bytes[i] = src[i];
-        i += 1;
-    }
-    bytes
-}
-
-fn put_four(dst: &mut [u8], bytes: [u8; 4])
-    requires { (length dst.old ≡ 4) × (length bytes ≡ 4) }
-    ensures { dst.new ≡ bytes }
-{
-    let mut i = 0;
-    while i < 4 {
-        dst[i] = bytes[i];
-        i += 1;
-    }
+    let end = at + N;
+    dst[at..end].copy_from_slice(&src[at..end]);
 }

@@ -2,6 +2,13 @@
 use Rattle.std.specs.Prelude.{ℕ, zero, suc, ◌+◌, ◌-◌, ◌*◌, ◌/◌, ◌%◌, Bool, true, cond, ◌&&◌, List, [], ◌∷◌, ◌++◌, ltb, leb, length, drop}
 use Prim.Native.Char.{code}
 use Rattle.octets.specs.Bytes.{hex_value}
+use Rattle.numerals.specs.declared.Base.{Base}
+use Rattle.numerals.specs.declared.Base.TheVariants.{Decimal, Hex}
+
+-- the number of digits of a base
+abbrev pub radix : Base → ℕ
+radix Decimal = 10
+radix Hex = 16
 
 -- the byte of a digit: `0` to `9`, then `A` to `F`
 unfoldable pub glyph : ℕ → ℕ

@@ -2,74 +2,64 @@
 #![tactic(auto)]
 
 ghost use Rattle.std.specs.Prelude.{◌≡◌, ◌+◌, ◌<◌, ◌≤◌, length};
-ghost use Rattle.numerals.specs.Numeral.{glyph as glyphOf, digits, numeral, width as width_of, put};
+ghost use Rattle.numerals.specs.Numeral.{glyph as glyphOf, digits, numeral, radix, put as put_front};
 
-// How many digits has `n` in decimal?
-pub fn decimal_width(n: u64) -> usize
-    ensures { result ≡ length (numeral 10 n) }
-{
-    width(n, 10)
+// The base that digits are counted in.
+#[derive(Clone, Copy)]
+pub enum Base {
+    Decimal = 10,
+    Hex = 16,
 }
 
-// How many digits has `n` in hexadecimal?
-pub fn hex_width(n: u64) -> usize
-    ensures { result ≡ length (numeral 16 n) }
+// How many digits has `n`?
+pub fn width(n: u64, base: Base) -> usize
+    ensures { result ≡ length (numeral (radix base) n) }
 {
-    width(n, 16)
+    digit_count(n, base as u64)
 }
 
-// Puts the decimal digits of `n` at the front of `out` if they fit, keeps the rest, and gives their count.
-pub fn put_decimal(n: u64, out: &mut [u8]) -> usize
-    ensures counts { result ≡ length (numeral 10 n) }
-    ensures writes { out.new ≡ put (numeral 10 n) out.old }
+// Puts the digits of `n` at the front of `out` if they fit, keeps the rest, and gives their count.
+pub fn put(n: u64, base: Base, out: &mut [u8]) -> usize
+    ensures counts { result ≡ length (numeral (radix base) n) }
+    ensures writes { out.new ≡ put_front (numeral (radix base) n) out.old }
 {
-    put_numeral(n, 10, out)
+    put_numeral(n, base as u64, out)
 }
 
-// The same in hexadecimal.
-pub fn put_hex(n: u64, out: &mut [u8]) -> usize
-    ensures counts { result ≡ length (numeral 16 n) }
-    ensures writes { out.new ≡ put (numeral 16 n) out.old }
+fn put_numeral(n: u64, radix: u64, out: &mut [u8]) -> usize
+    requires { (2 ≤ radix) × (radix ≤ 16) }
+    ensures counts { result ≡ length (numeral radix n) }
+    ensures writes { out.new ≡ put_front (numeral radix n) out.old }
 {
-    put_numeral(n, 16, out)
-}
-
-fn put_numeral(n: u64, base: u64, out: &mut [u8]) -> usize
-    requires { (2 ≤ base) × (base ≤ 16) }
-    ensures counts { result ≡ length (numeral base n) }
-    ensures writes { out.new ≡ put (numeral base n) out.old }
-{
-    let count = width(n, base);
+    let count = digit_count(n, radix);
     if count <= out.len() {
-        put_digits(n, base, &mut out[..count]);
+        put_digits(n, radix, &mut out[..count]);
     }
     count
 }
 
-fn width(n: u64, base: u64) -> usize
-    requires { 2 ≤ base }
-    ensures { result ≡ length (numeral base n) }
+fn digit_count(n: u64, radix: u64) -> usize
+    requires { 2 ≤ radix }
+    ensures { result ≡ length (numeral radix n) }
 {
     let mut count = 1;
     let mut rest = n;
-    while rest >= base {
-        rest /= base;
+    while rest >= radix {
+        rest /= radix;
         count += 1;
     }
     count
 }
 
 // Fills `out` with the last digits of `n`.
-fn put_digits(n: u64, base: u64, out: &mut [u8])
-    requires { (0 < base) × (base ≤ 16) }
-    ensures { out.new ≡ digits base (length out.old) n }
+fn put_digits(n: u64, radix: u64, out: &mut [u8])
+    requires { (0 < radix) × (radix ≤ 16) }
+    ensures { out.new ≡ digits radix (length out.old) n }
 {
-    let mut i = out.len();
     let mut rest = n;
-    while i > 0 {
-        i -= 1;
-        out[i] = glyph(rest % base);
-        rest /= base;
+    for i in (0..out.len()).rev() {
+        out[i] = glyph(rest % radix);
+        rest /= radix;
     }
 }
 

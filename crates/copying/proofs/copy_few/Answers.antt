@@ -5,6 +5,5 @@ use Rattle.copying.proofs.copy_few.Goals as goal
 
 pub returns : goal.returns
 returns c =
-    four_blocks 4 c.args.dst.now c.args.src.now c.requires.0 (omega arith) (omega arith) c.copy_four.ensures
-    c.least.ensures c.copy_four-2.ensures c.least-2.ensures c.copy_four-3.ensures
-    c.copy_four-4.ensures
+    four_blocks 4 c.args.dst.now c.args.src.now c.requires.0 (omega arith) (omega arith) c.copy_block.ensures
+    (omega arith) c.copy_block-2.ensures (omega arith) c.copy_block-3.ensures c.copy_block-4.ensures
