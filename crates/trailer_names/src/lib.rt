@@ -4,7 +4,7 @@
 ghost use Rattle.std.specs.Prelude.{◌≡◌, ◌&&◌, ℕ, ◌≤◌};
 ghost use Rattle.grammar.specs.Grammar.{lower};
 ghost use Rattle.framing.specs.Grammar.{forbidden};
-ghost use Rattle.framing.specs.helpers.Names.{texts, has, odd, bit, going_on};
+ghost use Rattle.framing.specs.helpers.Names.{texts, has, odd, going_on};
 
 // All of them, as bits.
 pub const EVERY: u8 = 7;
@@ -22,22 +22,12 @@ pub fn going_on(bits: u8, at: u8, byte: u8) -> u8
     let transfer_encoding = agrees(bits, b"transfer-encoding:", place, small);
     let content_length = agrees(bits / 2, b"content-length:", place, small);
     let trailer = agrees(bits / 2 / 2, b"trailer:", place, small);
-    transfer_encoding + 2 * (content_length + 2 * trailer)
+    transfer_encoding as u8 + 2 * (content_length as u8 + 2 * trailer as u8)
 }
 
-// 1 where the lowest bit is set and the text has that small letter at `at`.
-fn agrees(bits: u8, text: &[u8], at: usize, small: u8) -> u8
-    ensures is { (b : ℕ) → small ≡ lower b → result ≡ bit (odd bits && has text.now at b) }
-    ensures bit { result ≤ 1 }
+// Is the lowest bit set, and has the text that small letter at `at`?
+fn agrees(bits: u8, text: &[u8], at: usize, small: u8) -> bool
+    ensures { (b : ℕ) → small ≡ lower b → result ≡ odd bits && has text.now at b }
 {
-    if bits % 2 != 1 {
-        return 0;
-    }
-    if at >= text.len() {
-        return 0;
-    }
-    if text[at] != small {
-        return 0;
-    }
-    1
+    bits % 2 == 1 && text.get(at) == Some(&small)
 }

@@ -1,42 +1,25 @@
 -- `trailer_names::agrees` meets its contract.
-use mathlib.Core.Path.{◌≡◌, refl, sym, ◌∙◌, ap}
-use mathlib.Core.Bool.{Bool, true, false, ◌&&◌}
+use mathlib.Core.Path.{◌≡◌, sym, ◌∙◌}
+use Rattle.std.proofs.Common.{List, ℕ, nat_eq, Bor, get_or}
+use Rattle.std.specs.Slice.{IsItemAt}
+use Rattle.std.specs.declared.option.Option.{Option}
+use Rattle.std.specs.declared.option.Option.TheVariants.{None, Some}
+use Rattle.std.specs.Option.{option_eq}
 use native.Mathlib.Omega.{arith}
-use borrow.Author.Tests.{eq-eqb, ne_eqb}
-use Rattle.framing.specs.helpers.Names.{has, odd, bit}
+use borrow.Author.Tests.{eq-eqb}
+use Rattle.std.proofs.lemmas.Bool.Decides.{nat_tests}
+use Rattle.grammar.specs.Grammar.{lower}
+use Rattle.framing.specs.helpers.Names.{has}
 use Rattle.framing.proofs.Names.{past_end, has-byte}
 use Rattle.trailer_names.proofs.agrees.Goals as goal
 
-unset : (x y : Bool) → y ≡ false → 0 ≡ bit (x && y)
-unset true y e = ap bit (sym e)
-unset false y e = refl
+-- the byte there, if the text goes so far, against that letter
+looked : (text : List ℕ) (k b : ℕ) (r : Option (Bor ℕ)) (s : Bor ℕ) → s.now ≡ lower b → IsItemAt text k r
+    → option_eq (λ x y. nat_eq x.now y.now) r (Some s) ≡ has text k b
+looked text k b None s e i = sym (past_end text k b i.3)
+looked text k b (Some x) s e i =
+    let f : x.now ≡ get_or text k 0 = i.4 (omega arith) 0 in
+    rw (has-byte text k b i.3.0, e, f) (grind (arith, nat_tests))
 
-pub returns-then-bits-ne1 : goal.returns-then-bits-ne1
-returns-then-bits-ne1 c = record { is = λ b e. rw (ne_eqb _ _ c.if-bits-ne1.true) refl; bit = omega arith }
-
-pub returns-then-at-text : goal.returns-then-at-text
-returns-then-at-text c =
-    let x = c.args in
-    record { is = λ b e. unset (odd x.bits) (has x.text.now x.at b) (past_end x.text.now x.at b (omega arith)); bit = omega arith }
-
-pub returns-then-text-at : goal.returns-then-text-at
-returns-then-text-at c =
-    let x = c.args in
-    record {
-      is = λ b e. unset (odd x.bits) (has x.text.now x.at b)
-          (has-byte x.text.now x.at b (omega arith) ∙ ne_eqb _ _ (λ z. c.if-text-at.true (sym z ∙ sym e)));
-      bit = omega arith;
-    }
-
-pub returns : goal.returns
-returns c =
-    let x = c.args in
-    record {
-      is = λ b e. rw (
-        has-byte x.text.now x.at b (omega arith),
-        eq-eqb _ _ (sym e ∙ sym c.if-text-at.false),
-        eq-eqb _ _ c.if-bits-ne1.false,
-      )
-          refl;
-      bit = omega arith;
-    }
+pub returns-then-bits-eq1 : goal.returns-then-bits-eq1
+returns-then-bits-eq1 c = λ b e. rw (eq-eqb _ _ c.if-bits-eq1.true) (c.eq.ensures ∙ looked c.args.text.now c.args.at b c.get.result _ e c.get.ensures.lookup)
