@@ -1,24 +1,19 @@
 -- The machine's clauses at a known position, as equations.
-use mathlib.Core.Path.{◌≡◌, sym, ◌∙◌, ap}
+use mathlib.Core.Path.{◌≡◌, ◌∙◌, ap}
 use mathlib.Core.Bool.{Bool, cond}
 use mathlib.Core.List.{List}
 use Prim.Native.Nat.{ℕ, ◌<◌, ◌≤◌}
 use native.Mathlib.Decide.{dec_lt}
 use native.Mathlib.Omega.{arith}
 use lib.ListN.{length}
-use Rattle.framing.specs.declared.ExtPos.{ExtPos}
-use Rattle.framing.specs.helpers.Extensions.{ext_step}
 use Rattle.framing.specs.Grammar.{forbidden}
 use Rattle.framing.specs.helpers.Names.{texts, going_on}
 use Rattle.framing.proofs.Names.{past_all}
 use Rattle.framing.proofs.Ranks.{Each}
 
--- what `pick_ext` and `pick_trail` promise, with a known test and a known other choice
+-- what `pick` promises, with a known test and a known other choice
 pub pick : {A : Type 0} (a : A) {r q b : A} {t u : Bool} → t ≡ u → q ≡ b → r ≡ cond t a q → r ≡ cond u a b
 pick {A} a {r} {q} {b} {t} {u} e f h = h ∙ ap (λ (z : Bool). cond z a q) e ∙ ap (λ (z : A). cond u a z) f
-
-pub ext-at : (p e : ExtPos) (b : ℕ) → e ≡ p → ext_step p b ≡ ext_step e b
-ext-at p e b h = ap (λ (z : ExtPos). ext_step z b) (sym h)
 
 -- ## Names
 within : (k : ℕ) → 18 ≤ k → Each (λ (f : List ℕ). length f ≤ k) (texts forbidden)

@@ -18,35 +18,35 @@ pub fn ext_step(pos: ExtPos, byte: u8) -> ExtPos
 {
     let dead = ExtPos::Dead;
     match pos {
-        ExtPos::Between => pick_ext(byte == b';', ExtPos::NameStart, dead),
-        ExtPos::NameStart => pick_ext(octets::is_token(byte), ExtPos::Name, dead),
+        ExtPos::Between => pick(byte == b';', ExtPos::NameStart, dead),
+        ExtPos::NameStart => pick(octets::is_token(byte), ExtPos::Name, dead),
         ExtPos::Name => {
-            let other = pick_ext(byte == b';', ExtPos::NameStart, dead);
-            pick_ext(
+            let other = pick(byte == b';', ExtPos::NameStart, dead);
+            pick(
                 octets::is_token(byte),
                 ExtPos::Name,
-                pick_ext(byte == b'=', ExtPos::ValueStart, other),
+                pick(byte == b'=', ExtPos::ValueStart, other),
             )
         }
-        ExtPos::ValueStart => pick_ext(
+        ExtPos::ValueStart => pick(
             octets::is_token(byte),
             ExtPos::Token,
-            pick_ext(byte == b'"', ExtPos::Quoted, dead),
+            pick(byte == b'"', ExtPos::Quoted, dead),
         ),
-        ExtPos::Token => pick_ext(
+        ExtPos::Token => pick(
             octets::is_token(byte),
             ExtPos::Token,
-            pick_ext(byte == b';', ExtPos::NameStart, dead),
+            pick(byte == b';', ExtPos::NameStart, dead),
         ),
         ExtPos::Quoted => {
-            let other = pick_ext(byte == b'"', ExtPos::Between, dead);
-            pick_ext(
+            let other = pick(byte == b'"', ExtPos::Between, dead);
+            pick(
                 octets::is_text(byte),
                 ExtPos::Quoted,
-                pick_ext(byte == b'\\', ExtPos::Pair, other),
+                pick(byte == b'\\', ExtPos::Pair, other),
             )
         }
-        ExtPos::Pair => pick_ext(octets::is_escaped(byte), ExtPos::Quoted, dead),
+        ExtPos::Pair => pick(octets::is_escaped(byte), ExtPos::Quoted, dead),
         ExtPos::Dead => dead,
     }
 }
@@ -55,51 +55,28 @@ pub fn ext_step(pos: ExtPos, byte: u8) -> ExtPos
 pub fn ext_ends(pos: ExtPos) -> bool
     ensures { result ≡ ext_ends pos }
 {
-    match pos {
-        ExtPos::Between => true,
-        ExtPos::NameStart => false,
-        ExtPos::Name => true,
-        ExtPos::ValueStart => false,
-        ExtPos::Token => true,
-        ExtPos::Quoted => false,
-        ExtPos::Pair => false,
-        ExtPos::Dead => false,
-    }
+    matches!(pos, ExtPos::Between | ExtPos::Name | ExtPos::Token)
 }
 
 // Can extensions go on from there to their end?
 pub fn ext_live(pos: ExtPos) -> bool
     ensures { result ≡ ext_live pos }
 {
-    match pos {
-        ExtPos::Between => true,
-        ExtPos::NameStart => true,
-        ExtPos::Name => true,
-        ExtPos::ValueStart => true,
-        ExtPos::Token => true,
-        ExtPos::Quoted => true,
-        ExtPos::Pair => true,
-        ExtPos::Dead => false,
-    }
+    !matches!(pos, ExtPos::Dead)
 }
 
 // The position behind a byte of the trailer.
 pub fn trail_step(pos: TrailPos, byte: u8) -> TrailPos
     ensures { result ≡ trailer.next pos byte }
 {
-    let dead = TrailPos::Dead;
     match pos {
-        TrailPos::LineStart => {
-            if octets::is_token(byte) {
-                return name_at(trailer_names::going_on(EVERY, 0, byte), 0);
-            }
-            dead
+        TrailPos::LineStart if octets::is_token(byte) => {
+            name_at(trailer_names::going_on(EVERY, 0, byte), 0)
         }
         TrailPos::Name { agreed } => name_step(agreed, byte),
-        TrailPos::Value => value_byte(byte),
-        TrailPos::Forbidden => value_byte(byte),
-        TrailPos::Lf => pick_trail(byte == b'\n', TrailPos::LineStart, dead),
-        TrailPos::Dead => dead,
+        TrailPos::Value | TrailPos::Forbidden => value_byte(byte),
+        TrailPos::Lf if byte == b'\n' => TrailPos::LineStart,
+        _ => TrailPos::Dead,
     }
 }
 
@@ -110,15 +87,15 @@ fn name_step(agreed: u8, byte: u8) -> TrailPos
     let dead = TrailPos::Dead;
     let bits = agreed % WIDTH;
     if bits == 0 {
-        let value = pick_trail(byte == b':', TrailPos::Value, dead);
+        let value = pick(byte == b':', TrailPos::Value, dead);
         let name = TrailPos::Name { agreed: 0 };
-        return pick_trail(octets::is_token(byte), name, value);
+        return pick(octets::is_token(byte), name, value);
     }
     let length = agreed / WIDTH;
     let on = trailer_names::going_on(bits, length, byte);
-    let behind = pick_trail(on == 0, TrailPos::Value, TrailPos::Forbidden);
-    let other = pick_trail(byte == b':', behind, dead);
-    pick_trail(octets::is_token(byte), name_at(on, length), other)
+    let behind = pick(on == 0, TrailPos::Value, TrailPos::Forbidden);
+    let other = pick(byte == b':', behind, dead);
+    pick(octets::is_token(byte), name_at(on, length), other)
 }
 
 // In a name, with which those in `bits` agree behind `length` bytes and one more. With its colon the longest of them has 18 bytes.
@@ -137,10 +114,10 @@ fn name_at(bits: u8, length: u8) -> TrailPos
 fn value_byte(byte: u8) -> TrailPos
     ensures { result ≡ in_value byte }
 {
-    pick_trail(
+    pick(
         octets::is_content(byte),
         TrailPos::Value,
-        pick_trail(byte == b'\r', TrailPos::Lf, TrailPos::Dead),
+        pick(byte == b'\r', TrailPos::Lf, TrailPos::Dead),
     )
 }
 
@@ -148,47 +125,25 @@ fn value_byte(byte: u8) -> TrailPos
 pub fn trail_live(pos: TrailPos) -> bool
     ensures { result ≡ trailer.alive pos }
 {
-    match pos {
-        TrailPos::LineStart => true,
-        TrailPos::Name { agreed: _ } => true,
-        TrailPos::Value => true,
-        TrailPos::Forbidden => true,
-        TrailPos::Lf => true,
-        TrailPos::Dead => false,
-    }
+    !matches!(pos, TrailPos::Dead)
 }
 
 // Was the byte the colon of a forbidden name?
 pub fn is_forbidden(pos: TrailPos) -> bool
     ensures { result ≡ at_forbidden pos }
 {
-    match pos {
-        TrailPos::Forbidden => true,
-        _ => false,
-    }
+    matches!(pos, TrailPos::Forbidden)
 }
 
 // Is it the CR that closes the body?
 pub fn closes(pos: TrailPos, byte: u8) -> bool
     ensures { result ≡ trailer.ends pos && eqb byte cr_byte }
 {
-    match pos {
-        TrailPos::LineStart => byte == b'\r',
-        TrailPos::Name { agreed: _ } => false,
-        TrailPos::Value => false,
-        TrailPos::Forbidden => false,
-        TrailPos::Lf => false,
-        TrailPos::Dead => false,
-    }
+    matches!(pos, TrailPos::LineStart) && byte == b'\r'
 }
 
-fn pick_ext(test: bool, yes: ExtPos, other: ExtPos) -> ExtPos
-    ensures { result ≡ cond test yes other }
-{
-    if test { yes } else { other }
-}
-
-fn pick_trail(test: bool, yes: TrailPos, other: TrailPos) -> TrailPos
+// One of two, by a test. Chosen, not branched to: both are there already.
+fn pick<T: Copy>(test: bool, yes: T, other: T) -> T
     ensures { result ≡ cond test yes other }
 {
     if test { yes } else { other }

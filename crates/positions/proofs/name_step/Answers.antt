@@ -13,7 +13,7 @@ pub returns-then-bits-eq0 : goal.returns-then-bits-eq0
 returns-then-bits-eq0 c =
     let x = c.args in
     rw (c.if-bits-eq0.true, none-on (texts forbidden) (x.agreed / 8) x.byte)
-    (pick (TrailPos.Name 0) c.is_token.ensures c.pick_trail-value.ensures c.pick_trail.ensures)
+    (pick (TrailPos.Name 0) c.is_token.ensures c.pick-value.ensures c.pick.ensures)
 
 pub name_at-requires : goal.name_at-requires
 name_at-requires c =
@@ -21,14 +21,3 @@ name_at-requires c =
       omega (arith, c.going_on-on.ensures, going-few forbidden (x.agreed % 8) (x.agreed / 8) x.byte),
       λ e. short (x.agreed % 8) (x.agreed / 8) x.byte (λ z. e (c.going_on-on.ensures ∙ z)),
     )
-
-pub returns : goal.returns
-returns c =
-    rw (
-      ← c.going_on-on.ensures,
-      ← c.pick_trail-behind.ensures,
-      ← c.pick_trail-other.ensures,
-      ← c.is_token-2.ensures,
-      ← c.name_at.ensures,
-    )
-    c.pick_trail-2.ensures
