@@ -2,13 +2,13 @@
 use Prim.Native.Nat.{ℕ, zero, suc, ◌+◌, ◌-◌, ◌*◌, ◌/◌, ◌%◌, ◌≤◌, ◌<◌}
 use native.Mathlib.Omega.{arith}
 use native.Mathlib.Nat.{pos_of_ne-zero, add-zero}
-use borrow.Author.Tests.{eqb-true, eqb-false, leb-true, leb-false, le-leb, lt-leb, ltb-true, ltb-false, lt-ltb, le-ltb, ne_eqb}
+use borrow.Author.Tests.{eqb-true, eqb-false, leb-true, leb-false, le-leb, lt-leb, ltb-true, ltb-false, lt-ltb, le-ltb}
 use mathlib.Core.Path.{◌≡◌, refl, sym, ap, subst, ◌∙◌}
 use mathlib.Core.Bool.{Bool, true, false, cond, ◌&&◌, ◌||◌, not}
 use mathlib.Core.List.{List, [], ◌∷◌}
 use lib.Dec.{T, leb, ltb, eqb, leb→le, eqb→eq}
 use lib.ListN.{get_or}
-use Rattle.calendar.specs.Gregorian.{leap?, year_length, lengths, month_length, days_of_years, days_of_months}
+use Rattle.calendar.specs.Gregorian.{leap?, year_length, lengths, days_of_years, days_of_months}
 use Rattle.calendar.specs.Instants.{last_within, years_before}
 
 T-left : (a b : Bool) → T (a && b) → T a
@@ -140,11 +140,7 @@ grows_on f up i j h = climb (j - i) j (omega arith)
             let d : suc (i + m) ≡ j = omega arith in
             omega (arith, ap f d)
 
--- where k passes the test, it is the last within; otherwise the one before is looked at
-pub last-here : (f : ℕ → ℕ) (x k : ℕ) → f 0 ≤ x → f k ≤ x → last_within f k x ≡ k
-last-here f x zero h l = refl
-last-here f x (suc k) h l = rw (le-leb (f (suc k)) x l)
-
+-- where k does not pass the test, the last within is looked for below it
 pub last-before : (f : ℕ → ℕ) (x k : ℕ) → 0 < k → x < f k → last_within f k x ≡ last_within f (k - 1) x
 last-before f x zero h l = absurd (omega arith)
 last-before f x (suc k) h l =
@@ -236,9 +232,6 @@ before-counts true k h =
 before-counts false k h =
     eqb→eq (get_or before k 0 + 0) (days_of_months false k) (every-at 12 (λ i. eqb (get_or before i 0 + 0) (days_of_months false i)) tt k h)
 
-pub before_small : (k : ℕ) → k < 12 → get_or before k 0 ≤ 334
-before_small k h = leb→le (get_or before k 0) 334 (every-at 12 (λ i. leb (get_or before i 0) 334) tt k h)
-
 pub lengths-small : (k : ℕ) → k < 12 → get_or lengths k 0 ≤ 31
 lengths-small k h = leb→le (get_or lengths k 0) 31 (every-at 12 (λ i. leb (get_or lengths i 0) 31) tt k h)
 
@@ -254,38 +247,6 @@ module _ (leap : Bool) (k : ℕ) (h : k < 12) where
 
   pub before-common : leap ≡ false → get_or before k 0 ≡ days_of_months leap k
   before-common e = sym (add-zero (get_or before k 0)) ∙ more-days false 0 (rw e) refl
-
-  index : k + 1 - 1 ≡ k
-  index = omega arith
-
-  pub length_february : leap ≡ true → k ≡ 1 → get_or lengths k 0 + 1 ≡ month_length leap (k + 1)
-  length_february e d = rw (e, d)
-
-  pub length-other : leap ≡ true → (k ≡ 1 → ⊥) → get_or lengths k 0 ≡ month_length leap (k + 1)
-  length-other e d = rw (e, index, ne_eqb (k + 1) 2 (λ x. d (omega arith)), add-zero)
-
-  pub length-common : leap ≡ false → get_or lengths k 0 ≡ month_length leap (k + 1)
-  length-common e = rw (e, index, add-zero)
-
--- ## Leap years
-
-module _ (y : ℕ) where
-  pub leap_no : (y % 4 ≡ 0 → ⊥) → false ≡ leap? y
-  unfolding leap?
-  leap_no h = rw (ne_eqb (y % 4) 0 h)
-
-  pub leap_yes : y % 4 ≡ 0 → (y % 100 ≡ 0 → ⊥) → true ≡ leap? y
-  unfolding leap?
-  leap_yes h k = rw (h, ne_eqb (y % 100) 0 k)
-
-  pub leap_hundredth : y % 4 ≡ 0 → y % 100 ≡ 0 → eqb (y % 400) 0 ≡ leap? y
-  unfolding leap?
-  leap_hundredth h k = rw (h, k)
-
--- no day of a year stands before its first month
-pub none_before : (leap : Bool) (d k : ℕ) → d < days_of_months leap k → 0 < k
-none_before leap d zero h = absurd (omega arith)
-none_before leap d (suc k) h = omega arith
 
 -- ## What holds of the last of a count
 

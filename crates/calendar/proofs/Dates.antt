@@ -1,7 +1,7 @@
 -- Dates and day numbers, each from the other.
 use Prim.Native.Nat.{ℕ, suc, ◌+◌, ◌-◌, ◌*◌, ◌/◌, ◌%◌, ◌≤◌, ◌<◌}
 use native.Mathlib.Omega.{arith}
-use borrow.Author.Tests.{leb-true, ltb-true, le-leb, lt-leb, lt-ltb, le-ltb}
+use borrow.Author.Tests.{leb-true, ltb-true, le-leb, lt-ltb}
 use mathlib.Core.Path.{◌≡◌, refl, sym, ap, ap₂, ◌∙◌}
 use mathlib.Core.Bool.{Bool, true, false, ◌&&◌, true≢false}
 use lib.Dec.{leb, ltb}
@@ -124,53 +124,6 @@ pub number_sum : (y m d : ℕ) (leap : Bool) (a b : ℕ) → a ≡ days_of_years
     → a + b + (d - 1) ≡ day_number y m d
 number_sum y m d leap a b p q r =
     ap₂ (λ (v w : ℕ). v + w + (d - 1)) p (r ∙ ap (λ (t : Bool). days_of_months t (m - 1)) q)
-
--- ## The tests, one after the other
-
-module _ (y m d : ℕ) where
-  pub year-early : y < 1583 → false ≡ date? y m d
-  unfolding date?
-  year-early h = rw (lt-leb 1583 y h)
-
-  module _ (a : 1583 ≤ y) where
-    pub year-late : 9999 < y → false ≡ date? y m d
-    unfolding date?
-    year-late h = rw (le-leb 1583 y a, lt-leb y 9999 h)
-
-    module _ (b : y ≤ 9999) where
-      pub month-early : m < 1 → false ≡ date? y m d
-      unfolding date?
-      month-early h = rw (le-leb 1583 y a, le-leb y 9999 b, lt-leb 1 m h)
-
-      module _ (f : 1 ≤ m) where
-        pub month-late : 12 < m → false ≡ date? y m d
-        unfolding date?
-        month-late h = rw (le-leb 1583 y a, le-leb y 9999 b, le-leb 1 m f, lt-leb m 12 h)
-
-        module _ (g : m ≤ 12) where
-          pub day-early : d < 1 → false ≡ date? y m d
-          unfolding date?
-          day-early h = rw (le-leb 1583 y a, le-leb y 9999 b, le-leb 1 m f, le-leb m 12 g, lt-leb 1 d h)
-
-          pub day-within : 1 ≤ d → (leap : Bool) (n : ℕ) → leap ≡ leap? y → n ≡ month_length leap (m - 1 + 1) → leb d n ≡ date? y m d
-          unfolding date?
-          day-within h leap n p q =
-              let e : m - 1 + 1 ≡ m = omega arith in
-              rw (le-leb 1583 y a, le-leb y 9999 b, le-leb 1 m f, le-leb m 12 g, le-leb 1 d h)
-              (ap (leb d) (q ∙ ap (λ (t : Bool). month_length t (m - 1 + 1)) p ∙ ap (month_length (leap? y)) e))
-
-module _ (h m s : ℕ) where
-  pub hour-late : 23 < h → false ≡ time? h m s
-  unfolding time?
-  hour-late k = rw (le-ltb h 24 k)
-
-  pub minute-late : h ≤ 23 → 59 < m → false ≡ time? h m s
-  unfolding time?
-  minute-late a k = rw (lt-ltb h 24 (omega arith), le-ltb m 60 k)
-
-  pub second-within : h ≤ 23 → m ≤ 59 → ltb s 60 ≡ time? h m s
-  unfolding time?
-  second-within a b = rw (lt-ltb h 24 (omega arith), lt-ltb m 60 (omega arith))
 
 -- ## From a day number to a date
 

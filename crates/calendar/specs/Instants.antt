@@ -1,12 +1,10 @@
 -- Instants: the seconds since 1970-01-01 00:00:00, negative before it, and the fields of a date and a time of day.
-use Rattle.std.specs.Prelude.{ℕ, zero, suc, ◌+◌, ◌-◌, ◌*◌, ◌/◌, ◌%◌, Bool, cond, ◌&&◌, leb, ℤ, pos, negsuc}
+use Rattle.std.specs.Prelude.{ℕ, zero, suc, ◌+◌, ◌-◌, ◌*◌, ◌/◌, ◌%◌, Bool, cond, ◌&&◌, leb, Option, Some, None, ℤ, pos, negsuc}
 use Rattle.std.proofs.Math.IntN.{sub_ℕ}
 use Rattle.std.specs.Int.Signed.{le_z}
 use Rattle.calendar.specs.declared.Fields.{Fields}
-use Rattle.calendar.specs.declared.Located.{Located}
-use Rattle.calendar.specs.declared.Located.TheVariants.{At, Nowhere}
-use Rattle.calendar.specs.declared.Told.{Told}
-use Rattle.calendar.specs.declared.Told.TheVariants.{On, Outside}
+use Rattle.calendar.specs.declared.Instant.{Instant}
+use Rattle.calendar.specs.declared.Moment.{Moment}
 use Rattle.calendar.specs.Gregorian.{leap?, first_year, last_year, days_of_years, days_of_months, day_number, weekday, exists?}
 
 abbrev pub day_seconds : ℕ
@@ -28,8 +26,8 @@ since_epoch n = sub_ℕ n epoch
 unfoldable pub seconds_of : Fields → ℤ
 seconds_of f = since_epoch (elapsed f)
 
-unfoldable pub located : Fields → Located
-located f = cond (exists? f) (At (seconds_of f) (weekday (day_number f.year f.month f.day))) Nowhere
+unfoldable pub located : Fields → Option Instant
+located f = cond (exists? f) (Some (record { seconds = seconds_of f; weekday = weekday (day_number f.year f.month f.day) })) None
 
 -- "The range is -12,212,553,600 to 253,402,300,799."
 abbrev pub in_range? : ℤ → Bool
@@ -73,5 +71,5 @@ fields_at s = fields_on (since_first s / day_seconds) (since_first s % day_secon
 unfoldable pub weekday_at : ℤ → ℕ
 weekday_at s = weekday (since_first s / day_seconds)
 
-unfoldable pub told : ℤ → Told
-told s = cond (in_range? s) (On (fields_at s) (weekday_at s)) Outside
+unfoldable pub told : ℤ → Option Moment
+told s = cond (in_range? s) (Some (record { fields = fields_at s; weekday = weekday_at s })) None

@@ -1,3 +1,2 @@
 pub mod Gregorian
 pub mod Instants
-pub mod helpers

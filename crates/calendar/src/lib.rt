@@ -5,9 +5,8 @@ ghost use Rattle.std.specs.Prelude.{◌≡◌, true, ◌+◌, ◌*◌, ◌/◌, 
 ghost use Rattle.calendar.specs.Gregorian.{leap?, month_length, days_of_years, days_of_months, day_number, date?, time?};
 ghost use Rattle.calendar.specs.Instants.{located, told, in_range?, since_first, since_epoch};
 ghost use Rattle.calendar.specs.Instants.{years_before, months_before, fields_on};
-ghost use Rattle.calendar.specs.helpers.Days.{floor_day};
 
-#[derive(Clone, Copy)]
+#[derive(Clone, Copy, Debug, PartialEq, Eq)]
 pub struct Fields {
     pub year: u32,
     pub month: u32,
@@ -18,17 +17,17 @@ pub struct Fields {
 }
 
 // The instant of a date and a time of day, with its day of the week, counted from 0, which is Monday.
-#[derive(Clone, Copy)]
-pub enum Located {
-    At { seconds: i64, weekday: u32 },
-    Nowhere,
+#[derive(Clone, Copy, Debug, PartialEq, Eq)]
+pub struct Instant {
+    pub seconds: i64,
+    pub weekday: u32,
 }
 
 // The date and the time of day of an instant, with its day of the week.
-#[derive(Clone, Copy)]
-pub enum Told {
-    On { fields: Fields, weekday: u32 },
-    Outside,
+#[derive(Clone, Copy, Debug, PartialEq, Eq)]
+pub struct Moment {
+    pub fields: Fields,
+    pub weekday: u32,
 }
 
 const FIRST_YEAR: u32 = 1583;
@@ -58,13 +57,7 @@ const BEFORE: [u32; 12] = [0, 31, 59, 90, 120, 151, 181, 212, 243, 273, 304, 334
 fn is_leap(year: u32) -> bool
     ensures { result ≡ leap? year }
 {
-    if year % 4 != 0 {
-        return false;
-    }
-    if year % 100 != 0 {
-        return true;
-    }
-    year % 400 == 0
+    year % 4 == 0 && (year % 100 != 0 || year % 400 == 0)
 }
 
 // The length of a month, counted from 0.
@@ -73,12 +66,7 @@ fn month_length(leap: bool, index: usize) -> u32
     ensures { result ≡ month_length leap (index + 1) }
 {
     let days = LENGTHS[index];
-    if leap {
-        if index == 1 {
-            return days + 1;
-        }
-    }
-    days
+    if leap && index == 1 { days + 1 } else { days }
 }
 
 // The days of a year before a month, counted from 0.
@@ -87,12 +75,7 @@ fn days_before(leap: bool, index: usize) -> u32
     ensures { result ≡ days_of_months leap index }
 {
     let days = BEFORE[index];
-    if leap {
-        if index > 1 {
-            return days + 1;
-        }
-    }
-    days
+    if leap && index > 1 { days + 1 } else { days }
 }
 
 // The days of the first n years from 1583 on.
@@ -121,44 +104,27 @@ fn whole_years(day: u32) -> u32
 fn whole_months(leap: bool, day: u32) -> usize
     ensures { result ≡ months_before leap day }
 {
-    let mut k: usize = 11;
-    while days_before(leap, k) > day {
-        k -= 1;
+    for k in (1..12).rev() {
+        if days_before(leap, k) <= day {
+            return k;
+        }
     }
-    k
+    0
 }
 
 fn date_exists(year: u32, month: u32, day: u32) -> bool
     ensures { result ≡ date? year month day }
 {
-    if year < FIRST_YEAR {
-        return false;
-    }
-    if year > LAST_YEAR {
-        return false;
-    }
-    if month < 1 {
-        return false;
-    }
-    if month > 12 {
-        return false;
-    }
-    if day < 1 {
-        return false;
-    }
-    day <= month_length(is_leap(year), (month - 1) as usize)
+    (FIRST_YEAR..=LAST_YEAR).contains(&year)
+        && (1..=12).contains(&month)
+        && day >= 1
+        && day <= month_length(is_leap(year), (month - 1) as usize)
 }
 
 fn time_exists(hour: u32, minute: u32, second: u32) -> bool
     ensures { result ≡ time? hour minute second }
 {
-    if hour > 23 {
-        return false;
-    }
-    if minute > 59 {
-        return false;
-    }
-    second < 60
+    hour < 24 && minute < 60 && second < 60
 }
 
 // The days from 1583-01-01 to a date.
@@ -172,7 +138,7 @@ fn number_of_day(year: u32, month: u32, day: u32) -> u32
 }
 
 // The instant of a day, counted from 1583-01-01, and a second of it.
-fn instant(day: u32, second: u32) -> i64
+fn seconds_on(day: u32, second: u32) -> i64
     requires day_bound { day < 3074246 }
     requires second_bound { second < 86400 }
     ensures { result ≡ since_epoch (day * 86400 + second) }
@@ -181,33 +147,26 @@ fn instant(day: u32, second: u32) -> i64
     elapsed as i64 - EPOCH
 }
 
-pub fn locate(f: Fields) -> Located
+pub fn locate(f: Fields) -> Option<Instant>
     ensures { result ≡ located f }
 {
-    if !date_exists(f.year, f.month, f.day) {
-        return Located::Nowhere;
-    }
-    if !time_exists(f.hour, f.minute, f.second) {
-        return Located::Nowhere;
+    if !date_exists(f.year, f.month, f.day) || !time_exists(f.hour, f.minute, f.second) {
+        return None;
     }
     let day = number_of_day(f.year, f.month, f.day);
     let second = f.hour * 3600 + f.minute * 60 + f.second;
-    Located::At {
-        seconds: instant(day, second),
+    Some(Instant {
+        seconds: seconds_on(day, second),
         weekday: (day + 5) % 7,
-    }
+    })
 }
 
-// The day of an instant, counted from 1970-01-01: division rounded down.
-fn day_of(seconds: i64) -> i64
-    ensures { result ≡ floor_day seconds }
+// The day of an instant, counted from 1583-01-01.
+fn day_since_first(seconds: i64) -> u32
+    requires { in_range? seconds ≡ true }
+    ensures { result ≡ since_first seconds / 86400 }
 {
-    let quotient = seconds / SIGNED_DAY;
-    if seconds % SIGNED_DAY < 0 {
-        quotient - 1
-    } else {
-        quotient
-    }
+    (seconds.div_euclid(SIGNED_DAY) + EPOCH_DAY) as u32
 }
 
 // The second of its day.
@@ -215,20 +174,7 @@ fn second_of(seconds: i64) -> u32
     requires { in_range? seconds ≡ true }
     ensures { result ≡ since_first seconds % 86400 }
 {
-    let rest = seconds % SIGNED_DAY;
-    if rest < 0 {
-        (rest + SIGNED_DAY) as u32
-    } else {
-        rest as u32
-    }
-}
-
-// The days from 1583-01-01 to the day of an instant.
-fn day_since_first(seconds: i64) -> u32
-    requires { in_range? seconds ≡ true }
-    ensures { result ≡ since_first seconds / 86400 }
-{
-    (day_of(seconds) + EPOCH_DAY) as u32
+    seconds.rem_euclid(SIGNED_DAY) as u32
 }
 
 fn fields_on(day: u32, second: u32) -> Fields
@@ -250,19 +196,16 @@ fn fields_on(day: u32, second: u32) -> Fields
     }
 }
 
-pub fn fields_at(seconds: i64) -> Told
+pub fn fields_at(seconds: i64) -> Option<Moment>
     ensures { result ≡ told seconds }
 {
-    if seconds < FIRST_SECOND {
-        return Told::Outside;
-    }
-    if seconds > LAST_SECOND {
-        return Told::Outside;
+    if !(FIRST_SECOND..=LAST_SECOND).contains(&seconds) {
+        return None;
     }
     let day = day_since_first(seconds);
     let second = second_of(seconds);
-    Told::On {
+    Some(Moment {
         fields: fields_on(day, second),
         weekday: (day + 5) % 7,
-    }
+    })
 }

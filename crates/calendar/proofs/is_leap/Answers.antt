@@ -1,12 +1,17 @@
 -- `calendar::is_leap` meets its contract.
-use Rattle.calendar.proofs.Counting.{leap_no, leap_yes, leap_hundredth}
+use Rattle.std.proofs.Common.{arith}
+use Rattle.std.proofs.lemmas.Grind.{common_steps}
+use Rattle.calendar.specs.Gregorian.{leap?}
 use Rattle.calendar.proofs.is_leap.Goals as goal
 
 pub returns-then-year-ne0 : goal.returns-then-year-ne0
-returns-then-year-ne0 c = leap_no c.args.year c.if-year-ne0.true
+unfolding leap?
+returns-then-year-ne0 c = grind (arith, common_steps)
 
-pub returns-then-year-ne0-2 : goal.returns-then-year-ne0-2
-returns-then-year-ne0-2 c = leap_yes c.args.year c.if-year-ne0.false c.if-year-ne0-2.true
+pub returns-else-year-ne0 : goal.returns-else-year-ne0
+unfolding leap?
+returns-else-year-ne0 c = grind (arith, common_steps)
 
-pub returns : goal.returns
-returns c = leap_hundredth c.args.year c.if-year-ne0.false c.if-year-ne0-2.false
+pub returns-else-year-eq0 : goal.returns-else-year-eq0
+unfolding leap?
+returns-else-year-eq0 c = grind (arith, common_steps)
