@@ -1,8 +1,10 @@
 -- The text of quoted strings by comparisons: one of `#` to `~` is text unless it is the backslash, any other byte by two or three more.
-use Rattle.std.proofs.Common.{◌≡◌, ℕ, ◌<◌, ◌≤◌, Bool, true, false, cond, not, eqb, leb, sym, refl, ap, arith, ne_eqb, le-leb}
+use Rattle.std.proofs.Common.{◌≡◌, ℕ, ◌<◌, ◌≤◌, Bool, true, false, cond, not, eqb, leb, List, length, get_or, sym, refl, ap, arith, ne_eqb, le-leb}
 use borrow.Author.Tests.{lt-leb}
 use Rattle.octets.specs.Bytes.{text?, within}
 use Rattle.octets.proofs.Spans.{by_range}
+use Rattle.scans.specs.helpers.Runs.{run_end}
+use Rattle.scans.proofs.Runs.{run-end-stop}
 
 -- ## One of `#` to `~`
 
@@ -17,9 +19,13 @@ unfolding text? visible
 visible_text b s h k =
     chosen (within 35 126 b) (eqb b 92) (text? b) (by_range visible (λ (n : ℕ). true) 0 256 refl b (omega arith) (omega arith)) h (ne_eqb b 92 k)
 
-pub backslash_not : (b : ℕ) → b ≡ 92 → text? b ≡ false
+backslash_not : (b : ℕ) → b ≡ 92 → text? b ≡ false
 unfolding text?
 backslash_not b e = ap text? e
+
+-- text ends at a backslash
+pub backslash_ends : (s : List ℕ) (i : ℕ) → i < length s → get_or s i 0 ≡ 92 → run_end text? s i ≡ i
+backslash_ends s i h e = run-end-stop text? s i h (backslash_not (get_or s i 0) e)
 
 -- ## Any other byte
 

@@ -1,5 +1,5 @@
 -- `scans::is_letter` meets its contract: computed over all bytes, one whose small letter is one of a to z is in a token.
-use Rattle.std.proofs.Common.{◌≡◌, ℕ, ◌+◌, ◌%◌, ◌<◌, ◌≤◌, Bool, true, cond, leb, refl, arith, le-leb}
+use Rattle.std.proofs.Common.{◌≡◌, ℕ, ◌+◌, ◌%◌, ◌<◌, ◌≤◌, Bool, true, cond, leb, refl, arith, le-leb, ltb-true}
 use Rattle.grammar.specs.Grammar.{lower}
 use Rattle.octets.specs.Bytes.{token?}
 use Rattle.octets.proofs.Spans.{by_range}
@@ -13,9 +13,9 @@ unfolding lower token? within
 letter-token b s h k =
     rw (le-leb 97 (lower b) h, le-leb (lower b) 122 k) at (by_range within (λ (n : ℕ). true) 0 256 refl b (omega arith) (omega arith))
 
-pub returns-then-wrapping_sub_u8-lt26 : goal.returns-then-wrapping_sub_u8-lt26
-returns-then-wrapping_sub_u8-lt26 c e =
+pub returns : goal.returns
+returns c e =
     let b = c.args.b in
     let l : c.lower_case.result ≡ lower b = c.lower_case.ensures in
-    let w : (c.wrapping_sub_u8.result + 97) % 256 ≡ c.lower_case.result = c.wrapping_sub_u8.ensures.value in
+    let w : (lower b + 159) % 256 < 26 = omega (arith, ltb-true _ _ e) in
     letter-token b (omega arith) (omega arith) (omega arith)

@@ -1,12 +1,29 @@
 -- `scans::read_decimal` meets its contract: with the number read so far in front, what is left reads as the whole does.
-use Rattle.std.proofs.Common.{get_or, sym, ap, ◌∙◌, arith, le-ltb, lt-ltb, leb-false, leb-true}
+use Rattle.std.proofs.Common.{◌≡◌, ℕ, ◌≤◌, Bool, true, false, ltb, List, length, max, get_or, sym, refl, ap, ◌∙◌, arith, eq-eqb, le-ltb, lt-ltb, leb-false, leb-true, ltb-false, ltb-true}
 use Rattle.octets.specs.Bytes.{digit?}
 use Rattle.octets.specs.Numbers.{grow}
 use Rattle.octets.proofs.Bytes.{digit_low, digit_high}
 use Rattle.octets.proofs.Tables.{digit_bits}
 use Rattle.scans.specs.declared.Decimal.TheVariants.{Above}
-use Rattle.scans.proofs.Numbers.{decimal_start, decimal_out, decimal_stop, decimal_above, decimal_next}
+use Rattle.scans.specs.helpers.Decimals.{number_from, decimal_at}
+use Rattle.scans.proofs.Numbers.{decimal_from, decimal_start, decimal_out, decimal_stop, decimal_above, decimal_next}
 use Rattle.scans.proofs.read_decimal.Goals as goal
+
+-- a number is the whole reading where the text ends, behind it or before it
+ended : (limit from v : ℕ) (s : List ℕ) (i m : ℕ) → length s ≤ i → (from ≤ length s → i ≤ length s) → m ≡ max from (length s)
+    → decimal_from limit from v s i ≡ decimal_at limit s from → number_from v from m ≡ decimal_at limit s from
+ended limit from v s i m h k e d = go (ltb (length s) from) refl
+  where
+    go : (x : Bool) → ltb (length s) from ≡ x → number_from v from m ≡ decimal_at limit s from
+    go true f =
+        let b = ltb-true (length s) from f in
+        let a : m ≡ from = omega arith in
+        rw (a, eq-eqb from from refl)
+        (rw (eq-eqb from from refl) at (sym (decimal_out limit from 0 s from (omega arith)) ∙ decimal_start limit s from))
+    go false f =
+        let b = ltb-false (length s) from f in
+        let a : m ≡ i = omega arith in
+        rw a (sym (decimal_out limit from v s i h) ∙ d)
 
 pub loop-i-init : goal.loop-i-init
 loop-i-init c = (omega arith, decimal_start c.args.limit c.args.s.now c.args.from)
@@ -63,4 +80,5 @@ pub returns : goal.returns
 returns c =
     let l = c.loop-i in
     let x = c.args in
-    c.found-2.ensures ∙ sym (decimal_out x.limit x.from l.value x.s.now l.i c.loop-i-test.false) ∙ l.invariant.1
+    c.found-2.ensures
+    ∙ ended x.limit x.from l.value x.s.now l.i c.max.result c.loop-i-test.false l.auto.i-end c.max.ensures l.invariant.1
