@@ -16,11 +16,11 @@ module _ (f : Fields) where
       let v = time-is f.hour f.minute f.second e in
       (omega (arith, v.hours, v.minutes, v.seconds), omega (arith, v.hours), omega (arith, v.minutes))
 
-  pub located-at : (n : ℕ) (s : ℤ) → date? f.year f.month f.day ≡ true → time? f.hour f.minute f.second ≡ true
+  pub located-at : (n w : ℕ) (s : ℤ) → date? f.year f.month f.day ≡ true → time? f.hour f.minute f.second ≡ true → w ≡ weekday n
       → n ≡ day_number f.year f.month f.day → s ≡ since_epoch (n * 86400 + (f.hour * 3600 + f.minute * 60 + f.second))
-      → Some (record { seconds = s; weekday = (n + 5) % 7 }) ≡ located f
+      → Some (record { seconds = s; weekday = w }) ≡ located f
   unfolding located seconds_of
-  located-at n s a b e d = rw (a, b, d, e)
+  located-at n w s a b g e d = rw (a, b, d, g, e)
 
 module _ (s : ℤ) where
   pub outside : in_range? s ≡ false → None ≡ told s
@@ -31,7 +31,7 @@ module _ (s : ℤ) where
   unfolding fields_at
   at-is n t a b = ap₂ fields_on a b
 
-  weekday-is : (n : ℕ) → n ≡ since_first s / 86400 → (n + 5) % 7 ≡ weekday_at s
+  weekday-is : (n : ℕ) → n ≡ since_first s / 86400 → weekday n ≡ weekday_at s
   unfolding weekday_at
   weekday-is n a = ap weekday a
 
@@ -39,5 +39,6 @@ module _ (s : ℤ) where
   unfolding told
   told-on e = sym (ap (λ (u : Bool). cond u (Some (record { fields = fields_at s; weekday = weekday_at s })) None) e)
 
-  pub inside : in_range? s ≡ true → (n t : ℕ) (f : Fields) → n ≡ since_first s / 86400 → t ≡ since_first s % 86400 → f ≡ fields_on n t → Some (record { fields = f; weekday = (n + 5) % 7 }) ≡ told s
-  inside e n t f a b d = rw (d ∙ at-is n t a b, weekday-is n a) (told-on e)
+  pub inside : in_range? s ≡ true → (n t w : ℕ) (f : Fields) → n ≡ since_first s / 86400 → t ≡ since_first s % 86400 → f ≡ fields_on n t → w ≡ weekday n
+      → Some (record { fields = f; weekday = w }) ≡ told s
+  inside e n t w f a b d g = rw (d ∙ at-is n t a b, g ∙ weekday-is n a) (told-on e)

@@ -2,7 +2,7 @@
 #![tactic(auto)]
 
 ghost use Rattle.std.specs.Prelude.{◌≡◌, true, ◌+◌, ◌*◌, ◌/◌, ◌%◌, ◌≤◌, ◌<◌};
-ghost use Rattle.calendar.specs.Gregorian.{leap?, month_length, days_of_years, days_of_months, day_number, date?, time?};
+ghost use Rattle.calendar.specs.Gregorian.{leap?, month_length, days_of_years, days_of_months, day_number, weekday, date?, time?};
 ghost use Rattle.calendar.specs.Instants.{located, told, in_range?, since_first, since_epoch};
 ghost use Rattle.calendar.specs.Instants.{years_before, months_before, fields_on};
 
@@ -87,19 +87,6 @@ fn days_of_years(n: u32) -> u32
     365 * n + last / 4 + last / 400 - last / 100 - 383
 }
 
-// The whole years from 1583 on before a day. The guess, as if every fourth year were a leap year, is at most one too low.
-fn whole_years(day: u32) -> u32
-    requires { day < 3074246 }
-    ensures { result ≡ years_before day }
-{
-    let n = day * 4 / 1461;
-    if days_of_years(n + 1) <= day {
-        n + 1
-    } else {
-        n
-    }
-}
-
 // The whole months before a day of a year.
 fn whole_months(leap: bool, day: u32) -> usize
     ensures { result ≡ months_before leap day }
@@ -127,24 +114,81 @@ fn time_exists(hour: u32, minute: u32, second: u32) -> bool
     hour < 24 && minute < 60 && second < 60
 }
 
-// The days from 1583-01-01 to a date.
-fn number_of_day(year: u32, month: u32, day: u32) -> u32
-    requires { date? year month day ≡ true }
-    ensures { result ≡ day_number year month day }
-{
-    let years = days_of_years(year - FIRST_YEAR);
-    let months = days_before(is_leap(year), (month - 1) as usize);
-    years + months + (day - 1)
+// A day of the range, by its number, counted from 1583-01-01.
+#[derive(Clone, Copy)]
+struct Day {
+    number: u32,
+    ghost in_range: { number < 3074246 },
 }
 
-// The instant of a day, counted from 1583-01-01, and a second of it.
-fn seconds_on(day: u32, second: u32) -> i64
-    requires day_bound { day < 3074246 }
-    requires second_bound { second < 86400 }
-    ensures { result ≡ since_epoch (day * 86400 + second) }
-{
-    let elapsed = day as u64 * DAY_SECONDS + second as u64;
-    elapsed as i64 - EPOCH
+impl Day {
+    // The day of a date.
+    fn of_date(year: u32, month: u32, day: u32) -> Day
+        requires { date? year month day ≡ true }
+        ensures { result.number ≡ day_number year month day }
+    {
+        let years = days_of_years(year - FIRST_YEAR);
+        let months = days_before(is_leap(year), (month - 1) as usize);
+        Day {
+            number: years + months + (day - 1),
+        }
+    }
+
+    // The day of an instant.
+    fn of_instant(seconds: i64) -> Day
+        requires { in_range? seconds ≡ true }
+        ensures { result.number ≡ since_first seconds / 86400 }
+    {
+        Day {
+            number: (seconds.div_euclid(SIGNED_DAY) + EPOCH_DAY) as u32,
+        }
+    }
+
+    fn weekday(self) -> u32
+        ensures { result ≡ weekday self.number }
+    {
+        (self.number + 5) % 7
+    }
+
+    // The instant of a second of the day.
+    fn seconds(self, second: u32) -> i64
+        requires { second < 86400 }
+        ensures { result ≡ since_epoch (self.number * 86400 + second) }
+    {
+        let elapsed = self.number as u64 * DAY_SECONDS + second as u64;
+        elapsed as i64 - EPOCH
+    }
+
+    // The whole years from 1583 on before it. The guess, as if every fourth year were a leap year, is at most one too low.
+    fn whole_years(self) -> u32
+        ensures { result ≡ years_before self.number }
+    {
+        let n = self.number * 4 / 1461;
+        if days_of_years(n + 1) <= self.number {
+            n + 1
+        } else {
+            n
+        }
+    }
+
+    // Its date, and the time of day of a second of it.
+    fn fields(self, second: u32) -> Fields
+        ensures { result ≡ fields_on self.number second }
+    {
+        let years = self.whole_years();
+        let year = FIRST_YEAR + years;
+        let day_of_year = self.number - days_of_years(years);
+        let leap = is_leap(year);
+        let months = whole_months(leap, day_of_year);
+        Fields {
+            year,
+            month: months as u32 + 1,
+            day: day_of_year - days_before(leap, months) + 1,
+            hour: second / 3600,
+            minute: second / 60 % 60,
+            second: second % 60,
+        }
+    }
 }
 
 pub fn locate(f: Fields) -> Option<Instant>
@@ -153,47 +197,20 @@ pub fn locate(f: Fields) -> Option<Instant>
     if !date_exists(f.year, f.month, f.day) || !time_exists(f.hour, f.minute, f.second) {
         return None;
     }
-    let day = number_of_day(f.year, f.month, f.day);
+    let day = Day::of_date(f.year, f.month, f.day);
     let second = f.hour * 3600 + f.minute * 60 + f.second;
     Some(Instant {
-        seconds: seconds_on(day, second),
-        weekday: (day + 5) % 7,
+        seconds: day.seconds(second),
+        weekday: day.weekday(),
     })
 }
 
-// The day of an instant, counted from 1583-01-01.
-fn day_since_first(seconds: i64) -> u32
-    requires { in_range? seconds ≡ true }
-    ensures { result ≡ since_first seconds / 86400 }
-{
-    (seconds.div_euclid(SIGNED_DAY) + EPOCH_DAY) as u32
-}
-
-// The second of its day.
+// The second of an instant's day.
 fn second_of(seconds: i64) -> u32
     requires { in_range? seconds ≡ true }
     ensures { result ≡ since_first seconds % 86400 }
 {
     seconds.rem_euclid(SIGNED_DAY) as u32
-}
-
-fn fields_on(day: u32, second: u32) -> Fields
-    requires { day < 3074246 }
-    ensures { result ≡ fields_on day second }
-{
-    let years = whole_years(day);
-    let year = FIRST_YEAR + years;
-    let day_of_year = day - days_of_years(years);
-    let leap = is_leap(year);
-    let months = whole_months(leap, day_of_year);
-    Fields {
-        year,
-        month: months as u32 + 1,
-        day: day_of_year - days_before(leap, months) + 1,
-        hour: second / 3600,
-        minute: second / 60 % 60,
-        second: second % 60,
-    }
 }
 
 pub fn fields_at(seconds: i64) -> Option<Moment>
@@ -202,10 +219,9 @@ pub fn fields_at(seconds: i64) -> Option<Moment>
     if !(FIRST_SECOND..=LAST_SECOND).contains(&seconds) {
         return None;
     }
-    let day = day_since_first(seconds);
-    let second = second_of(seconds);
+    let day = Day::of_instant(seconds);
     Some(Moment {
-        fields: fields_on(day, second),
-        weekday: (day + 5) % 7,
+        fields: day.fields(second_of(seconds)),
+        weekday: day.weekday(),
     })
 }

@@ -6,19 +6,13 @@ use mathlib.Core.Path.{sym, ◌∙◌}
 use mir.Syntax.{w64}
 use mir.Facts.{to_z-of_z}
 use Rattle.calendar.specs.Instants.{located}
-use Rattle.calendar.proofs.Dates.{date_is, number_small}
 use Rattle.calendar.proofs.Instants.{located-at, second_fits}
 use Rattle.calendar.proofs.locate.Goals as goal
-use Rattle.calendar.proofs.locate.Goals.{After-number_of_day-day, Else-not-time_exists}
+use Rattle.calendar.proofs.locate.Goals.{Else-not-time_exists}
 
 clock : (c : Else-not-time_exists) → (c.args.f.hour * 3600 + c.args.f.minute * 60 + c.args.f.second < 86400)
     × (c.args.f.hour * 3600 < 86400) × (c.args.f.minute * 60 < 3600)
 clock c = second_fits c.args.f (sym c.if-not-time_exists.ensures)
-
-few-days : (c : After-number_of_day-day) → c.number_of_day-day.result < 3074246
-few-days c =
-    let f = c.args.f in
-    omega (arith, number_small f.year f.month f.day (date_is f.year f.month f.day (sym c.if-not-date_exists.ensures)), c.number_of_day-day.ensures)
 
 pub returns-then-not-date_exists : goal.returns-then-not-date_exists
 unfolding located
@@ -36,16 +30,11 @@ overflow_add-second c = omega (arith, clock ((goal.at.overflow_add-second c).Els
 pub overflow_add-second-2 : goal.overflow_add-second-2
 overflow_add-second-2 c = omega (arith, clock ((goal.at.overflow_add-second-2 c).Else-not-time_exists))
 
-pub seconds_on-requires-clause-day_bound : goal.seconds_on-requires-clause-day_bound
-seconds_on-requires-clause-day_bound c = few-days ((goal.at.seconds_on-requires-clause-day_bound c).After-number_of_day-day)
-
-pub seconds_on-requires-clause-second_bound : goal.seconds_on-requires-clause-second_bound
-seconds_on-requires-clause-second_bound c = omega (arith, clock ((goal.at.seconds_on-requires-clause-second_bound c).Else-not-time_exists))
-
-pub overflow_add-result : goal.overflow_add-result
-overflow_add-result c = omega (arith, few-days ((goal.at.overflow_add-result c).After-number_of_day-day))
+pub seconds-requires : goal.seconds-requires
+seconds-requires c = omega (arith, clock ((goal.at.seconds-requires c).Else-not-time_exists))
 
 pub returns : goal.returns
 returns c =
-    located-at c.args.f _ _ (sym c.if-not-date_exists.ensures) (sym c.if-not-time_exists.ensures) c.number_of_day-day.ensures
-    (to_z-of_z {w = w64} (record { sfits = c.seconds_on.type_inv }) ∙ c.seconds_on.ensures)
+    located-at c.args.f _ _ _ (sym c.if-not-date_exists.ensures) (sym c.if-not-time_exists.ensures)
+    c.weekday.ensures c.of_date-day.ensures
+    (to_z-of_z {w = w64} (record { sfits = c.seconds.type_inv }) ∙ c.seconds.ensures)

@@ -1,11 +1,11 @@
--- `calendar::number_of_day` meets its contract.
+-- `calendar::Day::of_date` meets its contract.
 use native.Mathlib.Omega.{arith}
 use mathlib.Core.Path.{◌≡◌}
 use Prim.Native.Nat.{◌+◌, ◌-◌}
 use Rattle.calendar.specs.Gregorian.{day_number}
 use Rattle.calendar.proofs.Dates.{DateIs, date_is, number_small, number_sum}
-use Rattle.calendar.proofs.number_of_day.Goals as goal
-use Rattle.calendar.proofs.number_of_day.Goals.{After-days_before-months, Start}
+use Rattle.calendar.proofs.Day.of_date.Goals as goal
+use Rattle.calendar.proofs.Day.of_date.Goals.{After-days_before-months, Start}
 
 dated : (c : Start) → DateIs c.args.year c.args.month c.args.day
 dated c = date_is c.args.year c.args.month c.args.day c.requires
@@ -40,3 +40,8 @@ overflow_add-result-2 c =
 
 pub returns : goal.returns
 returns c = sum_is ((goal.at.returns c).After-days_before-months)
+
+pub invariant_of-result : goal.invariant_of-result
+invariant_of-result c =
+    let x = c.args in
+    omega (arith, number_small x.year x.month x.day (dated ((goal.at.invariant_of-result c).Start)), sum_is ((goal.at.invariant_of-result c).After-days_before-months))
