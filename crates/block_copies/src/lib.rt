@@ -13,13 +13,9 @@ pub fn copy(dst: &mut [u8], src: &[u8])
     ensures { dst.new ≡ put src.now dst.old }
 {
     let len = src.len();
-    if len == dst.len() {
-        if len >= BLOCK {
-            if len <= 4 * BLOCK {
-                copy_short(dst, src);
-                return;
-            }
-        }
+    if len == dst.len() && len >= BLOCK && len <= 4 * BLOCK {
+        copy_short(dst, src);
+        return;
     }
     copying::copy(dst, src);
 }
@@ -31,8 +27,8 @@ fn copy_short(dst: &mut [u8], src: &[u8])
 {
     let last = src.len() - BLOCK;
     copy_block(dst, src, 0);
-    copy_block(dst, src, octets::least(BLOCK, last));
-    copy_block(dst, src, octets::least(2 * BLOCK, last));
+    copy_block(dst, src, last.min(BLOCK));
+    copy_block(dst, src, last.min(2 * BLOCK));
     copy_block(dst, src, last);
 }
 

@@ -97,11 +97,13 @@ fn copy_bytes(dst: &mut [u8], src: &[u8])
     }
 }
 
-// The block of `N` bytes at `at`: as `N` is a constant, one wide move.
+// The block of `N` bytes at `at`: all of it is read before any is written, so that it is one wide move.
 fn copy_block<const N: usize>(dst: &mut [u8], src: &[u8], at: usize)
     requires { (length src.now ≤ length dst.old) × (at + N ≤ length src.now) }
     ensures { dst.new ≡ block_at N src.now dst.old at }
 {
     let end = at + N;
-    dst[at..end].copy_from_slice(&src[at..end]);
+    let mut block = [0; N];
+    block.copy_from_slice(&src[at..end]);
+    dst[at..end].copy_from_slice(&block);
 }

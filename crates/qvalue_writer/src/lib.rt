@@ -2,28 +2,28 @@
 #![tactic(auto)]
 
 ghost use Rattle.std.specs.Prelude.{◌≡◌, ◌++◌, ◌≤◌, length, drop};
-ghost use Rattle.octets.specs.Writing.{written};
+ghost use Rattle.octets.specs.Reading.{verdict};
 ghost use Rattle.qvalue_writer.specs.Writing.{last_digit, qvalue_text, qvalue_writing, qvalue_output};
 
-use octets::{OUT_OF_RANGE, OUTPUT_TOO_SHORT, Written};
+use octets::Refusal;
 
 // The largest qvalue, in thousandths.
 const ONE: u16 = 1000;
 
 // Writes the shortest form at the front of `out`, and keeps the rest of `out`.
-pub fn write(thousandths: u16, out: &mut [u8]) -> Written
-    ensures answers { written result ≡ qvalue_writing thousandths (length out.old) }
+pub fn write(thousandths: u16, out: &mut [u8]) -> Result<usize, Refusal>
+    ensures answers { verdict result ≡ qvalue_writing thousandths (length out.old) }
     ensures writes { out.new ≡ qvalue_output thousandths out.old }
 {
     if thousandths > ONE {
-        return octets::unwritten(OUT_OF_RANGE);
+        return Err(Refusal::OutOfRange);
     }
     let len = text_len(thousandths);
     if out.len() < len {
-        return octets::unwritten(OUTPUT_TOO_SHORT);
+        return Err(Refusal::OutputTooShort);
     }
     put_text(thousandths, len, out);
-    Written::Length(len)
+    Ok(len)
 }
 
 fn text_len(q: u16) -> usize

@@ -8,5 +8,5 @@ pub returns : goal.returns
 returns c =
     let s = c.requires in
     four_blocks 16 c.args.dst.now c.args.src.now (omega (arith, s.0)) s.1 s.2 c.copy_block.ensures
-    c.least.ensures c.copy_block-2.ensures c.least-2.ensures c.copy_block-3.ensures c.copy_block-4.ensures
+    (omega arith) c.copy_block-2.ensures (omega arith) c.copy_block-3.ensures c.copy_block-4.ensures
     ∙ replaced c.args.dst.now c.args.src.now s.0

@@ -11,7 +11,7 @@ pub returns-then-thousandths-gt-ONE : goal.returns-then-thousandths-gt-ONE
 returns-then-thousandths-gt-ONE c =
     let x = c.args in
     let q = x.thousandths in
-    let r = refuses-argument (ltb largest q) (qvalue_text q) x.out.now c.unwritten.result c.unwritten.ensures
+    let r = refuses-argument (ltb largest q) (qvalue_text q) x.out.now
     (lt-ltb largest q c.if-thousandths-gt-ONE.true) in
     record { answers = r.0; writes = r.1 }
 
@@ -19,7 +19,7 @@ pub returns-then-out-len : goal.returns-then-out-len
 returns-then-out-len c =
     let x = c.args in
     let q = x.thousandths in
-    let r = refuses-short (ltb largest q) (qvalue_text q) x.out.now c.unwritten-then-out-len.result c.unwritten-then-out-len.ensures
+    let r = refuses-short (ltb largest q) (qvalue_text q) x.out.now
     (le-ltb largest q c.if-thousandths-gt-ONE.false) (omega (arith, c.text_len-len.ensures, c.if-out-len.true)) in
     record { answers = r.0; writes = r.1 }
 

@@ -4,9 +4,9 @@ use Rattle.version_writer.proofs.put_text.Goals as goal
 
 pub returns : goal.returns
 returns c =
-    let d = c.put_decimal in
+    let d = c.put_numeral in
     let p = c.put_bytes-point_end in
-    let m = c.put_decimal-major_end in
+    let m = c.put_numeral-major_end in
     let h = c.put_bytes-name_end in
     text-put c.args.major c.args.minor c.args.out.now h.new.out m.new.out p.new.out d.new.out h.result m.result
     p.result d.result
