@@ -1,8 +1,9 @@
 -- The quoted bytes of a tag that was read stand within it, and are its opaque part.
-use Prim.Native.Nat.{ℕ}
+use Prim.Native.Nat.{ℕ, ◌+◌, ◌≤◌}
 use native.Mathlib.Omega.{arith}
 use mathlib.Core.Path.{◌≡◌, subst}
 use mathlib.Core.List.{List, [], ◌∷◌}
+use lib.ListN.{length}
 use Rattle.grammar.specs.Grammar.{Part}
 use Rattle.grammar.specs.Reading as G
 use Rattle.grammar.specs.helpers.Judge.{header}
@@ -11,7 +12,9 @@ use Rattle.grammar.proofs.Pieces.{slice-within, value-slices}
 use Rattle.etag.specs.declared.Tag.{Tag}
 use Rattle.etag.specs.Grammar.{Name, value, rules}
 use Rattle.etag.proofs.Demands.{one_way}
-use Rattle.etag_match.specs.helpers.Within.{Within}
+
+abbrev Within : List ℕ → Tag → Type 0
+Within s v = v.start + v.length ≤ length s
 
 within-parts : (s : List ℕ) (ps : List (Part Name)) → Slices 0 s ps → Within s (value ps)
 within-parts s [] w = omega arith

@@ -1,80 +1,43 @@
 // Entity tags matched: RFC 2616 13.3.3.
 #![tactic(auto)]
 
-ghost use Rattle.std.specs.Prelude.{◌≡◌};
+ghost use Rattle.std.specs.Prelude.{◌≡◌, MatchResult};
+ghost use Rattle.grammar.specs.Reading.{value, refused};
+ghost use Rattle.grammar.specs.helpers.Judge.{header};
 ghost use Rattle.octets.specs.Comparing.{comparison};
-ghost use Rattle.etag_match.specs.Matching.{weakly, strongly, matches, matching, weak_matching, strong_matching};
-ghost use Rattle.etag_match.specs.helpers.Within.{Within};
+ghost use Rattle.octets.specs.Reading.{number_of, place_of};
+ghost use Rattle.etag.specs.Grammar.{rules};
+ghost use Rattle.etag.specs.Reading.{opaque_bytes};
+ghost use Rattle.etag_match.specs.Matching.{weak_matching, strong_matching};
 
-use etag::{Reading, Tag};
-use octets::Compared;
+use etag::Tag;
+use octets::{PairRefusal, Refusal};
 
 // Reads the first, then the second: neither is weak, and the quoted bytes are the same as sent.
-pub fn strong_match(a: &[u8], b: &[u8]) -> Compared
+pub fn strong_match(a: &[u8], b: &[u8]) -> Result<bool, PairRefusal>
     ensures { comparison result ≡ strong_matching a.now b.now }
 {
-    match_tags(a, b, true)
+    let (v, first) = read(a).map_err(PairRefusal::First)?;
+    let (w, second) = read(b).map_err(PairRefusal::Second)?;
+    Ok(!v.weak && !w.weak && octets::same(first, second))
 }
 
 // Reads the first, then the second: the quoted bytes are the same as sent.
-pub fn weak_match(a: &[u8], b: &[u8]) -> Compared
+pub fn weak_match(a: &[u8], b: &[u8]) -> Result<bool, PairRefusal>
     ensures { comparison result ≡ weak_matching a.now b.now }
 {
-    match_tags(a, b, false)
+    let (_, first) = read(a).map_err(PairRefusal::First)?;
+    let (_, second) = read(b).map_err(PairRefusal::Second)?;
+    Ok(octets::same(first, second))
 }
 
-// Reads the first, then the second, and says whether they match.
-fn match_tags(a: &[u8], b: &[u8], strong: bool) -> Compared
-    ensures { comparison result ≡ matching strong a.now b.now }
+// The tag, and the bytes between its quotes.
+#[tactic(auto, using(crate::proofs::Within::within))]
+fn read(s: &[u8]) -> Result<(Tag, &[u8]), Refusal>
+    ensures { MatchResult result
+        (λ r. (header rules s.now ≡ value r.0) × (r.1.now ≡ opaque_bytes s.now r.0))
+        (λ e. header rules s.now ≡ refused (number_of e) (place_of e)) }
 {
-    match etag::read(a) {
-        Reading::Refused(r) => Compared::FirstRefused(r),
-        Reading::Read(v) => match etag::read(b) {
-            Reading::Refused(r) => Compared::SecondRefused(r),
-            Reading::Read(w) => {
-                if is_match(a, v, b, w, strong) {
-                    Compared::Same
-                } else {
-                    Compared::Different
-                }
-            }
-        },
-    }
-}
-
-fn is_match(a: &[u8], v: Tag, b: &[u8], w: Tag, strong: bool) -> bool
-    requires first { Within a.now v }
-    requires second { Within b.now w }
-    ensures { result ≡ matches strong a.now b.now v w }
-{
-    if strong {
-        return match_strongly(a, v, b, w);
-    }
-    match_weakly(a, v, b, w)
-}
-
-fn match_strongly(a: &[u8], v: Tag, b: &[u8], w: Tag) -> bool
-    requires first { Within a.now v }
-    requires second { Within b.now w }
-    ensures { result ≡ strongly a.now b.now v w }
-{
-    if v.weak {
-        return false;
-    }
-    if w.weak {
-        return false;
-    }
-    match_weakly(a, v, b, w)
-}
-
-fn match_weakly(a: &[u8], v: Tag, b: &[u8], w: Tag) -> bool
-    requires first { Within a.now v }
-    requires second { Within b.now w }
-    ensures { result ≡ weakly a.now b.now v w }
-{
-    let first = v.start;
-    let first_end = first + v.length;
-    let second = w.start;
-    let second_end = second + w.length;
-    octets::same(&a[first..first_end], &b[second..second_end])
+    let tag = etag::read(s)?;
+    Ok((tag, &s[tag.start..tag.start + tag.length]))
 }

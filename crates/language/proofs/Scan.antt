@@ -1,7 +1,7 @@
 -- The reader's scans against the grammar: the first part, and behind a part the end, or a hyphen and the next part.
-use Prim.Native.Nat.{ℕ, ◌+◌, ◌-◌, ◌≤◌, ◌<◌}
+use Prim.Native.Nat.{ℕ, ◌+◌, ◌-◌, ◌≤◌, ◌<◌, min}
 use native.Mathlib.Omega.{arith}
-use borrow.Author.Tests.{ne_eqb, eq-eqb, ltb-true, ltb-false, lt-ltb, le-ltb}
+use borrow.Author.Tests.{ne_eqb, eq-eqb, ltb-true, ltb-false}
 use mathlib.Core.Path.{◌≡◌, refl, sym, ap, ap₂, ◌∙◌}
 use mathlib.Core.Bool.{Bool, true, false, cond, true≢false}
 use mathlib.Core.List.{List, [], ◌∷◌, ◌++◌}
@@ -54,14 +54,13 @@ part-short s i h = go (ltb 8 (run_end letter? s i - i)) refl
         let z = ltb-false 8 (run_end letter? s i - i) e in
         record { ordered = w.ordered; within = w.within; few = omega (arith, w.ordered); inside = w.inside; stops = λ a b. w.stops a }
 
-module _ (s : List ℕ) (i : ℕ) where
-  pub part-more : 8 < run_end letter? s i - i → i + 8 ≡ part_end s i
-  unfolding part_end
-  part-more h = rw (lt-ltb 8 (run_end letter? s i - i) h)
-
-  pub part-whole : run_end letter? s i - i ≤ 8 → run_end letter? s i ≡ part_end s i
-  unfolding part_end
-  part-whole h = rw (le-ltb 8 (run_end letter? s i - i) h)
+pub part-least : (s : List ℕ) (i e : ℕ) → e ≡ run_end letter? s i → i + min (e - i) 8 ≡ part_end s i
+unfolding part_end
+part-least s i e d = go (ltb 8 (run_end letter? s i - i)) refl
+  where
+    go : (x : Bool) → ltb 8 (run_end letter? s i - i) ≡ x → i + min (e - i) 8 ≡ cond x (i + 8) (run_end letter? s i)
+    go true f = omega (arith, ltb-true 8 (run_end letter? s i - i) f)
+    go false f = omega (arith, ltb-false 8 (run_end letter? s i - i) f)
 
 -- ## The parts
 

@@ -1,5 +1,5 @@
 -- The reader's scans against the grammar: the first digit, the point, the digits behind it, the end.
-use Prim.Native.Nat.{ℕ, ◌+◌, ◌-◌, ◌*◌, ◌≤◌, ◌<◌}
+use Prim.Native.Nat.{ℕ, ◌+◌, ◌-◌, ◌*◌, ◌≤◌, ◌<◌, min}
 use native.Mathlib.Omega.{arith}
 use borrow.Author.Tests.{ne_eqb, eqb-true, ltb-true, ltb-false}
 use mathlib.Core.Path.{◌≡◌, refl, sym, ap, ◌∙◌}
@@ -121,11 +121,15 @@ module _ (s : List ℕ) (w : ℕ) (words : List ℕ) (a : AfterWhole s w words) 
         abbrev fraction_part : ℕ → Part Name
         fraction_part t = record { label = fraction; start = 2; text = slice s 2 t }
 
-        pub too_many : 5 < e → header rules s ≡ refused 1 5
+        too_many : 5 < e → header rules s ≡ refused 1 5
         too_many k =
             pointed ∙ part-up-to rules s cs fraction c empty refl refl (λ j b f. refl) 2 5 3
             (run-cut c.has s 3 2 e 5 run refl (omega arith)) (λ m x y. refl)
             ∙ goes_too_far rules s (cs ++ fraction_part 5 ∷ []) 5 (omega (arith, run.within))
+
+        -- no more than three are read
+        pub no_more : length s ≤ 5 → e ≤ 5
+        no_more h = omega (arith, run.within)
 
         module _ (few : e ≤ 5) where
           read-on : header rules s ≡ from rules s (ahead (cs ++ fraction_part e ∷ []) empty) e
@@ -133,7 +137,7 @@ module _ (s : List ℕ) (w : ℕ) (words : List ℕ) (a : AfterWhole s w words) 
               pointed ∙ part-up-to rules s cs fraction c empty refl refl (λ j b f. refl) 2 e 3 (run_short c.has s 3 2 e run few)
               (λ m x y. refl)
 
-          pub decimals_go_on : e < length s → header rules s ≡ refused 1 e
+          decimals_go_on : e < length s → header rules s ≡ refused 1 e
           decimals_go_on k = read-on ∙ goes_too_far rules s (cs ++ fraction_part e ∷ []) e k
 
           module _ (all : length s ≤ e) where
@@ -155,3 +159,17 @@ module _ (s : List ℕ) (w : ℕ) (words : List ℕ) (a : AfterWhole s w words) 
                 ∙ ap (λ (t : List ℕ). value (number_after (grow 0 (48 + w)) (take 3 (t ++ (48 ∷ 48 ∷ 48 ∷ []))))) tail
                 ∙ ap (λ (t : List ℕ). value (number_after (grow 0 (48 + w)) t)) (padded-text s)
                 ∙ ap value (four-digits w (get_or s 2 48) (get_or s 3 48) (get_or s 4 48))
+
+        -- behind up to three digits nothing may stand
+        pub behind_digits : (m : ℕ) → m ≡ min e 5 → m < length s → header rules s ≡ refused 1 m
+        behind_digits m d k = go (ltb 5 e) refl
+          where
+            go : (x : Bool) → ltb 5 e ≡ x → header rules s ≡ refused 1 m
+            go true f =
+                let a = ltb-true 5 e f in
+                let b : 5 ≡ m = omega arith in
+                too_many a ∙ ap (refused 1) b
+            go false f =
+                let a = ltb-false 5 e f in
+                let b : m ≡ e = omega arith in
+                rw b (decimals_go_on a (omega arith))
