@@ -6,6 +6,7 @@ ghost use Rattle.pieces.specs.Reading.{begun, state_after, taken_by, answered, o
 ghost use Rattle.ffi_pieces.specs.Fields.{pieces_fields, pieces_of, handed, fed_fields};
 
 use ffi::QzBody;
+use framing::State;
 use octets::OUT_OF_RANGE;
 use pieces::Pieces;
 use position_numbers::Numbers;
@@ -91,8 +92,7 @@ fn handed(given: QzPieces, state: Pieces, number: u8) -> QzPieces
 fn pieces_fields(s: Pieces) -> QzPieces
     ensures { result ≡ pieces_fields s }
 {
-    let place = s.position;
-    let n = position_numbers::numbers_of(place);
+    let n = Numbers::from(s.position);
     QzPieces {
         position: n.position,
         part: n.part,
@@ -110,7 +110,7 @@ fn pieces_fields(s: Pieces) -> QzPieces
 fn pieces_of(q: QzPieces) -> Pieces
     ensures { result ≡ pieces_of q }
 {
-    let place = position_numbers::place_of(Numbers {
+    let position = State::from(Numbers {
         position: q.position,
         part: q.part,
         name: q.name,
@@ -119,7 +119,7 @@ fn pieces_of(q: QzPieces) -> Pieces
         total: q.total,
     });
     Pieces {
-        position: place,
+        position,
         taken: q.taken,
         room: q.room,
         refused: q.refused,

@@ -3,15 +3,14 @@
 
 ghost use Rattle.std.specs.Prelude.{◌≡◌};
 ghost use Rattle.position_numbers.specs.Numbers.{ext_number, trail_number, name_of, line_numbers, trail_numbers};
-ghost use Rattle.position_numbers.specs.Numbers.{as_numbers, numbers_of};
-ghost use Rattle.position_numbers.specs.Numbers.{ext_of, line_of, trail_of, place_of};
+ghost use Rattle.position_numbers.specs.Numbers.{ext_of, line_of, trail_of};
 
 use framing::{ExtPos, LinePos, State, TrailPos};
 
 // `position` is the number of the case, and `part` that of the position in a line or a trailer. `size` is what the digits or the line gave,
 // or what is left of the chunk behind the next byte; `total` is the data before the line, or that of all chunks. `name` is what is
 // remembered of a name in the trailer; `length` is that of the line or the trailer. What a case does not use is 0.
-#[derive(Clone, Copy)]
+#[derive(Clone, Copy, Debug, PartialEq, Eq)]
 pub struct Numbers {
     pub position: u8,
     pub part: u8,
@@ -21,104 +20,155 @@ pub struct Numbers {
     pub total: usize,
 }
 
+const ZEROS: Numbers = Numbers {
+    position: 0,
+    part: 0,
+    name: 0,
+    size: 0,
+    length: 0,
+    total: 0,
+};
+
 // A position as numbers.
-pub fn numbers_of(place: State) -> Numbers
-    ensures { result ≡ numbers_of place }
-{
-    match place {
-        State::Line {
-            position,
-            length,
-            before,
-        } => line_numbers(position, length, before),
-        State::LineFeed { size, before } => as_numbers(1, 0, size, 0, before),
-        State::Data { left, total } => as_numbers(2, 0, left, 0, total),
-        State::DataCr { total } => as_numbers(3, 0, 0, 0, total),
-        State::DataLf { total } => as_numbers(4, 0, 0, 0, total),
-        State::Trail {
-            position,
-            length,
-            total,
-        } => trail_numbers(position, length, total),
-        State::EndLf { total, trailer } => as_numbers(6, 0, 0, trailer, total),
-        State::Done { total, trailer } => as_numbers(7, 0, 0, trailer, total),
-        State::Dead => as_numbers(8, 0, 0, 0, 0),
+impl From<State> for Numbers {
+    ghost use Rattle.position_numbers.specs.Numbers.{numbers_of};
+
+    ghost from_gives = { λ place n. n ≡ numbers_of place };
+
+    fn from(place: State) -> Numbers {
+        match place {
+            State::Line {
+                position,
+                length,
+                before,
+            } => line_numbers(position, length, before),
+            State::LineFeed { size, before } => Numbers {
+                position: 1,
+                size,
+                total: before,
+                ..ZEROS
+            },
+            State::Data { left, total } => Numbers {
+                position: 2,
+                size: left,
+                total,
+                ..ZEROS
+            },
+            State::DataCr { total } => Numbers {
+                position: 3,
+                total,
+                ..ZEROS
+            },
+            State::DataLf { total } => Numbers {
+                position: 4,
+                total,
+                ..ZEROS
+            },
+            State::Trail {
+                position,
+                length,
+                total,
+            } => trail_numbers(position, length, total),
+            State::EndLf { total, trailer } => Numbers {
+                position: 6,
+                length: trailer,
+                total,
+                ..ZEROS
+            },
+            State::Done { total, trailer } => Numbers {
+                position: 7,
+                length: trailer,
+                total,
+                ..ZEROS
+            },
+            State::Dead => Numbers {
+                position: 8,
+                ..ZEROS
+            },
+        }
     }
 }
 
 fn line_numbers(position: LinePos, length: usize, before: usize) -> Numbers
     ensures { result ≡ line_numbers position length before }
 {
-    match position {
-        LinePos::First => as_numbers(0, 0, 0, length, before),
-        LinePos::Size { value } => as_numbers(0, 1, value, length, before),
-        LinePos::Ext { value, position } => {
-            as_numbers(0, ext_number(position), value, length, before)
-        }
-    }
-}
-
-fn as_numbers(position: u8, part: u8, size: usize, length: usize, total: usize) -> Numbers
-    ensures { result ≡ as_numbers position part size length total }
-{
-    Numbers {
-        position,
-        part,
-        name: 0,
-        size,
+    let numbers = Numbers {
         length,
-        total,
+        total: before,
+        ..ZEROS
+    };
+    match position {
+        LinePos::First => numbers,
+        LinePos::Size { value } => Numbers {
+            part: 1,
+            size: value,
+            ..numbers
+        },
+        LinePos::Ext { value, position } => Numbers {
+            part: ext_number(position),
+            size: value,
+            ..numbers
+        },
     }
 }
 
 fn trail_numbers(position: TrailPos, length: usize, total: usize) -> Numbers
     ensures { result ≡ trail_numbers position length total }
 {
+    let (part, name) = trail_part(position);
     Numbers {
         position: 5,
-        part: trail_number(position),
-        name: name_of(position),
-        size: 0,
+        part,
+        name,
         length,
         total,
+        ..ZEROS
     }
 }
 
 // The position that numbers stand for, whatever they are.
-pub fn place_of(n: Numbers) -> State
-    ensures { result ≡ place_of n }
-{
-    let position = n.position;
-    match position {
-        0 => State::Line {
-            position: line_of(n.part, n.size),
-            length: n.length,
-            before: n.total,
-        },
-        1 => State::LineFeed {
-            size: n.size,
-            before: n.total,
-        },
-        2 => State::Data {
-            left: n.size,
-            total: n.total,
-        },
-        3 => State::DataCr { total: n.total },
-        4 => State::DataLf { total: n.total },
-        5 => State::Trail {
-            position: trail_of(n.part, n.name),
-            length: n.length,
-            total: n.total,
-        },
-        6 => State::EndLf {
-            total: n.total,
-            trailer: n.length,
-        },
-        7 => State::Done {
-            total: n.total,
-            trailer: n.length,
-        },
-        _ => State::Dead,
+impl From<Numbers> for State {
+    ghost use Rattle.position_numbers.specs.Numbers.{place_of};
+
+    ghost from_gives = { λ n place. place ≡ place_of n };
+
+    fn from(n: Numbers) -> State {
+        let Numbers {
+            position,
+            part,
+            name,
+            size,
+            length,
+            total,
+        } = n;
+        match position {
+            0 => State::Line {
+                position: line_of(part, size),
+                length,
+                before: total,
+            },
+            1 => State::LineFeed {
+                size,
+                before: total,
+            },
+            2 => State::Data { left: size, total },
+            3 => State::DataCr { total },
+            4 => State::DataLf { total },
+            5 => State::Trail {
+                position: trail_of(part, name),
+                length,
+                total,
+            },
+            6 => State::EndLf {
+                total,
+                trailer: length,
+            },
+            7 => State::Done {
+                total,
+                trailer: length,
+            },
+            _ => State::Dead,
+        }
     }
 }
 
@@ -126,42 +176,20 @@ pub fn place_of(n: Numbers) -> State
 fn ext_number(position: ExtPos) -> u8
     ensures { result ≡ ext_number position }
 {
-    match position {
-        ExtPos::Between => 2,
-        ExtPos::NameStart => 3,
-        ExtPos::Name => 4,
-        ExtPos::ValueStart => 5,
-        ExtPos::Token => 6,
-        ExtPos::Quoted => 7,
-        ExtPos::Pair => 8,
-        ExtPos::Dead => 9,
-    }
+    position as u8 + 2
 }
 
-fn trail_number(position: TrailPos) -> u8
-    ensures { result ≡ trail_number position }
+// The number of the position in a trailer, and what is remembered of a name.
+fn trail_part(position: TrailPos) -> (u8, u8)
+    ensures { result ≡ (trail_number position, name_of position) }
 {
     match position {
-        TrailPos::LineStart => 0,
-        TrailPos::Name { agreed: _ } => 1,
-        TrailPos::Value => 2,
-        TrailPos::Forbidden => 3,
-        TrailPos::Lf => 4,
-        TrailPos::Dead => 5,
-    }
-}
-
-// What is remembered of a name.
-fn name_of(position: TrailPos) -> u8
-    ensures { result ≡ name_of position }
-{
-    match position {
-        TrailPos::LineStart => 0,
-        TrailPos::Name { agreed } => agreed,
-        TrailPos::Value => 0,
-        TrailPos::Forbidden => 0,
-        TrailPos::Lf => 0,
-        TrailPos::Dead => 0,
+        TrailPos::LineStart => (0, 0),
+        TrailPos::Name { agreed } => (1, agreed),
+        TrailPos::Value => (2, 0),
+        TrailPos::Forbidden => (3, 0),
+        TrailPos::Lf => (4, 0),
+        TrailPos::Dead => (5, 0),
     }
 }
 
