@@ -45,6 +45,17 @@ module _ (s : List ℕ) (i : ℕ) where
   end_later h f = ap line_end (drop-cons s i 0 h) ∙ end_on (get_or s i 0) (drop (suc i) s) (ne_eqb (get_or s i 0) 10 f)
       ∙ ap (λ (k : ℕ). suc (line_end (drop k s))) (sym (add-one i))
 
+-- what it has to show: at an LF, behind another byte, and at the end
+pub ends_here : (s : List ℕ) (i : ℕ) → i + line_end (drop i s) ≡ line_end s → i < length s → get_or s i 0 ≡ 10 → i ≡ line_end s
+ends_here s i n h e = omega (arith, n, end-here s i h e)
+
+pub ends_later : (s : List ℕ) (i : ℕ) → i + line_end (drop i s) ≡ line_end s → i < length s → (get_or s i 0 ≡ 10 → ⊥)
+    → i + 1 + line_end (drop (i + 1) s) ≡ line_end s
+ends_later s i n h f = omega (arith, n, end_later s i h f)
+
+pub ends_last : (s : List ℕ) (i : ℕ) → i + line_end (drop i s) ≡ line_end s → i ≡ length s → length s ≡ line_end s
+ends_last s i n e = omega (arith, n, end-past s i (omega arith))
+
 -- the flag of a loop over a block
 pub inner_stopped : (b : ℕ) (t : Bool) → b ≡ 10 → false ≡ (t && inner? b)
 inner_stopped b t e = sym (ap (λ (u : Bool). t && not u) (eq-eqb b 10 e) ∙ and-false t)

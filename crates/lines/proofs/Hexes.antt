@@ -4,7 +4,7 @@ use mathlib.Core.Bool.{Bool, true, false, ◌&&◌, ◌||◌, cond}
 use mathlib.Core.List.{List, [], ◌∷◌, ◌++◌}
 use mathlib.Core.Logic.{◌⊎◌, inl, inr, ⊎_elim}
 use mathlib.Core.Option.{Option, none, some}
-use Prim.Native.Nat.{ℕ, zero, suc, ◌+◌, ◌-◌, ◌*◌, ◌/◌, ◌%◌, ◌^◌, ◌<◌, ◌≤◌}
+use Prim.Native.Nat.{ℕ, max, zero, suc, ◌+◌, ◌-◌, ◌*◌, ◌/◌, ◌%◌, ◌^◌, ◌<◌, ◌≤◌}
 use native.Mathlib.Nat.{mul-add-mod_self_right, mod-eq_of_lt}
 use native.Mathlib.Numerals.{add-one}
 use native.Mathlib.Omega.{arith}
@@ -12,7 +12,7 @@ use lib.Bits.{bit_and, bit_xor, and_block, xor_block, and_mask, xor_lt}
 use lib.Dec.{leb, ltb}
 use lib.ListN.{length, get_or, drop, drop_of_length-le, set, length-set}
 use lib.Seq.{drop-cons}
-use borrow.Author.Tests.{leb-true, le-leb, lt-leb, lt-ltb, le-ltb}
+use borrow.Author.Tests.{leb-true, ltb-true, ltb-false, le-leb, lt-leb, lt-ltb, le-ltb}
 use Rattle.octets.specs.Bytes.{within, hex?, hex_value}
 use Rattle.octets.proofs.Spans.{by_range}
 use Rattle.numerals.specs.Numeral.{every}
@@ -21,7 +21,7 @@ use Rattle.copying.specs.helpers.Runs.{Front}
 use Rattle.copying.proofs.Runs.{front-on, front-even}
 use Rattle.lines.specs.Grammar.{DIGIT_LIMIT}
 use Rattle.lines.specs.helpers.Pairs.{pairs}
-use Rattle.lines.specs.declared.Hex.TheVariants.{Bytes, Bad}
+use Rattle.std.specs.Prelude.{Some, None}
 use Rattle.lines.specs.Reading.{byte_before, bytes_of, within_room, spelled, hex_answer, hex_output}
 
 pub false-true : {A : Type 0} → false ≡ true → A
@@ -90,16 +90,21 @@ module _ (b m r : ℕ) (e : r ≡ cond (hex? b) (hex_value b) 16) where
   stopped : (n : ℕ) → hex? b ≡ false → 16 ≤ n → ltb n 16 ≡ (ltb m 16 && hex? b)
   stopped n f h = le-ltb n 16 h ∙ sym (ap (λ (t : Bool). ltb m 16 && t) f ∙ and-false (ltb m 16))
 
-  pub most_raised : m < r → ltb r 16 ≡ (ltb m 16 && hex? b)
+  most_raised : m < r → ltb r 16 ≡ (ltb m 16 && hex? b)
   most_raised h = split (hex? b)
       (λ t. let s : r < 16 = omega (arith, value-is b r e t, value-small b t) in
       lt-ltb r 16 s ∙ sym (ap₂ (λ (x y : Bool). x && y) (lt-ltb m 16 (omega arith)) t))
       (λ f. stopped r f (omega (arith, above f)))
 
-  pub most-kept : r ≤ m → ltb m 16 ≡ (ltb m 16 && hex? b)
+  most-kept : r ≤ m → ltb m 16 ≡ (ltb m 16 && hex? b)
   most-kept h = split (hex? b)
       (λ t. sym (ap (λ (u : Bool). ltb m 16 && u) t ∙ and-true (ltb m 16)))
       (λ f. stopped m f (omega (arith, above f)))
+
+  pub most-of-both : (n : ℕ) → n ≡ max r m → ltb n 16 ≡ (ltb m 16 && hex? b)
+  most-of-both n is = split (ltb m r)
+      (λ t. let h : m < r = ltb-true m r t in let k : n ≡ r = omega arith in ap (λ (i : ℕ). ltb i 16) k ∙ most_raised h)
+      (λ t. let h : r ≤ m = ltb-false m r t in let k : n ≡ m = omega arith in ap (λ (i : ℕ). ltb i 16) k ∙ most-kept h)
 
 -- ## Two digits in one word
 -- the low four bits, and 9 more for a letter
@@ -313,12 +318,12 @@ module _ {line old out : List ℕ} {k : ℕ} (h : Filling line old out k) where
 
 -- ## What each answer has to show
 pub bad_is : (xs : List ℕ) (old : List ℕ) → spelled xs (length old) ≡ none
-    → (Bad ≡ hex_answer (spelled xs (length old))) × (old ≡ hex_output (spelled xs (length old)) old)
+    → (None ≡ hex_answer (spelled xs (length old))) × (old ≡ hex_output (spelled xs (length old)) old)
 bad_is xs old e = (sym (ap hex_answer e), sym (ap (λ (o : Option (List ℕ)). hex_output o old) e))
 
 pub good-is : (xs old part : List ℕ) (n : ℕ) → n ≡ length (pairs xs) → part ≡ pairs xs → spelled xs (length old) ≡ some (pairs xs)
-    → (Bytes n ≡ hex_answer (spelled xs (length old))) × (part ++ drop n old ≡ hex_output (spelled xs (length old)) old)
+    → (Some n ≡ hex_answer (spelled xs (length old))) × (part ++ drop n old ≡ hex_output (spelled xs (length old)) old)
 good-is xs old part n k p e = (
-  ap Bytes k ∙ sym (ap hex_answer e),
+  ap Some k ∙ sym (ap hex_answer e),
   ap₂ (λ (y : List ℕ) (m : ℕ). y ++ drop m old) p k ∙ sym (ap (λ (o : Option (List ℕ)). hex_output o old) e),
 )

@@ -1,11 +1,11 @@
 -- Lines taken from pieces of an input, and their bytes: definitions that compute.
 use Rattle.std.specs.Prelude.{◌&&◌, cond, List, [], ◌∷◌, ◌++◌, ℕ, suc, ◌+◌, ◌*◌, eqb, ltb, length, take, drop}
+use Rattle.std.specs.Prelude as P
+use Rattle.std.specs.Prelude.{Some, None}
 use Rattle.std.proofs.Math.Option.{Option, none, some}
 use Prim.Native.Char.{code}
 use Rattle.octets.specs.Bytes.{hex?, hex_value}
 use Rattle.lines.specs.Grammar.{DIGIT_LIMIT}
-use Rattle.lines.specs.declared.Hex.{Hex}
-use Rattle.lines.specs.declared.Hex.TheVariants.{Bytes, Bad}
 use Rattle.lines.specs.declared.Gathered.{Gathered}
 
 -- ## Lines
@@ -73,10 +73,10 @@ within_room room (some ys) = cond (ltb room (length ys)) none (some ys)
 unfoldable pub spelled : List ℕ → ℕ → Option (List ℕ)
 spelled xs room = cond (ltb DIGIT_LIMIT (length xs)) none (within_room room (bytes_of xs))
 
--- the answer: how many bytes, or a bad line
-abbrev pub hex_answer : Option (List ℕ) → Hex
-hex_answer none = Bad
-hex_answer (some ys) = Bytes (length ys)
+-- the answer: how many bytes, or none for a bad line
+abbrev pub hex_answer : Option (List ℕ) → P.Option ℕ
+hex_answer none = None
+hex_answer (some ys) = Some (length ys)
 
 -- the lent bytes afterwards: those of the line at the front, or all as they were
 abbrev pub hex_output : Option (List ℕ) → List ℕ → List ℕ

@@ -20,25 +20,18 @@ pub struct Gathered {
     pub ended: bool,
 }
 
-// The bytes that a line spells, counted; or a bad line.
-#[derive(Clone, Copy)]
-pub enum Hex {
-    Bytes(usize),
-    Bad,
-}
-
 // The place of the first LF, or the length.
+#[tactic(auto, using(crate::proofs::Ends::ends_here, crate::proofs::Ends::ends_last))]
 fn line_end(s: &[u8]) -> usize
     ensures { result ≡ line_end s.now }
 {
-    let mut at = pass_blocks(s);
-    while at < s.len() {
-        if s[at] == b'\n' {
-            return at;
+    let start = pass_blocks(s);
+    for i in start..s.len() {
+        if s[i] == b'\n' {
+            return i;
         }
-        at += 1;
     }
-    at
+    s.len()
 }
 
 // A quick path: passes blocks of 64 bytes that have no LF, and stops at the first that has one. On lines of 16,384 digits `bench` takes
@@ -46,28 +39,25 @@ fn line_end(s: &[u8]) -> usize
 fn pass_blocks(s: &[u8]) -> usize
     ensures { NoneBefore s.now result }
 {
-    let mut at = 0;
-    while s.len() - at >= 64 {
-        let end = at + 64;
-        if !is_inner(&s[at..end]) {
+    let blocks = s.len() / 64;
+    for block in 0..blocks {
+        let at = 64 * block;
+        if !is_inner(&s[at..at + 64]) {
             return at;
         }
-        at = end;
     }
-    at
+    64 * blocks
 }
 
 // Is no byte LF? All are compared, even behind one, so that 16 are compared at a time.
 fn is_inner(part: &[u8]) -> bool
     ensures { result ≡ every inner? part.now }
 {
-    let mut at = 0;
     let mut inner = true;
-    while at < part.len() {
-        if part[at] == b'\n' {
+    for b in part {
+        if *b == b'\n' {
             inner = false;
         }
-        at += 1;
     }
     inner
 }
@@ -79,34 +69,28 @@ pub fn gather(piece: &[u8], line: &mut [u8], held: usize) -> Gathered
     ensures writes { line.new ≡ gathered_line line.old held piece.now }
 {
     let end = line_end(piece);
-    let start = octets::least(held, line.len());
-    let count = octets::least(end, line.len() - start);
+    let start = held.min(line.len());
+    let count = end.min(line.len() - start);
     let held = text::put_bytes(&piece[..count], line, start);
     let ended = end < piece.len();
     let taken = if ended { end + 1 } else { end };
     Gathered { taken, held, ended }
 }
 
-// Puts the bytes that a line spells at the front of `out`, and keeps the rest. A bad line leaves `out` as it was.
-pub fn from_hex(line: &[u8], out: &mut [u8]) -> Hex
+// Puts the bytes that a line spells at the front of `out`, keeps the rest, and gives their count. A bad line leaves `out` as it was.
+pub fn from_hex(line: &[u8], out: &mut [u8]) -> Option<usize>
     ensures answers { result ≡ hex_answer (spelled line.now (length out.old)) }
     ensures writes { out.new ≡ hex_output (spelled line.now (length out.old)) out.old }
 {
-    if line.len() > DIGIT_LIMIT {
-        return Hex::Bad;
-    }
-    if line.len() % 2 != 0 {
-        return Hex::Bad;
-    }
-    if !all_hex(line) {
-        return Hex::Bad;
+    if line.len() > DIGIT_LIMIT || line.len() % 2 != 0 || !all_hex(line) {
+        return None;
     }
     let count = line.len() / 2;
     if count > out.len() {
-        return Hex::Bad;
+        return None;
     }
     put_pairs(line, &mut out[..count]);
-    Hex::Bytes(count)
+    Some(count)
 }
 
 // Is every byte a digit? By the largest value of all: no byte stops it, so that 16 are read at a time. `bench` takes 4.3 times as long if
@@ -114,14 +98,9 @@ pub fn from_hex(line: &[u8], out: &mut [u8]) -> Hex
 fn all_hex(line: &[u8]) -> bool
     ensures { result ≡ every hex? line.now }
 {
-    let mut at = 0;
     let mut most = 0;
-    while at < line.len() {
-        let value = octets::hex_value(line[at]);
-        if most < value {
-            most = value;
-        }
-        at += 1;
+    for b in line {
+        most = octets::hex_value(*b).max(most);
     }
     most < 16
 }
@@ -131,12 +110,8 @@ fn put_pairs(line: &[u8], out: &mut [u8])
     requires { (length line.now ≡ 2 * length out.old) × (every hex? line.now ≡ true) }
     ensures { out.new ≡ pairs line.now }
 {
-    let mut at = 0;
-    let mut digit = 0;
-    while at < out.len() {
-        out[at] = pair(line[digit], line[digit + 1]);
-        at += 1;
-        digit += 2;
+    for i in 0..out.len() {
+        out[i] = pair(line[2 * i], line[2 * i + 1]);
     }
 }
 

@@ -1,29 +1,28 @@
 -- `lines::from_hex` meets its contract. By the case of the answer.
-use mathlib.Core.Path.{sym, ◌∙◌}
+use mathlib.Core.Path.{◌≡◌, sym, ◌∙◌}
+use Rattle.std.proofs.Math.Option.{none}
+use Rattle.lines.specs.Reading.{spelled}
 use Prim.Native.Nat.{◌/◌}
 use native.Mathlib.Omega.{arith}
 use lib.ListN.{length}
 use lib.Seq.{length-take-le}
 use Rattle.lines.proofs.Hexes.{too_many, odd, other, half, no_room, good, bad_is, good-is}
 use Rattle.lines.proofs.from_hex.Goals as goal
+use Rattle.lines.proofs.from_hex.Goals.{then-line-gt-DIGIT_LIMIT-via-then-line-gt-DIGIT_LIMIT}
+use Rattle.lines.proofs.from_hex.Goals.{then-line-gt-DIGIT_LIMIT-via-else-line-gt-DIGIT_LIMIT+then-line-ne0}
+use Rattle.lines.proofs.from_hex.Goals.{then-line-gt-DIGIT_LIMIT-via-else-line-gt-DIGIT_LIMIT+else-line-ne0+then-not-all_hex}
 
 pub returns-then-line-gt-DIGIT_LIMIT : goal.returns-then-line-gt-DIGIT_LIMIT
 returns-then-line-gt-DIGIT_LIMIT c =
+    let line = c.args.line.now in
     let out = c.args.out.now in
-    let p = bad_is c.args.line.now out (too_many c.args.line.now (length out) c.if-line-gt-DIGIT_LIMIT.true) in
-    record { answers = p.0; writes = p.1 }
-
-pub returns-then-line-ne0 : goal.returns-then-line-ne0
-returns-then-line-ne0 c =
-    let out = c.args.out.now in
-    let p = bad_is c.args.line.now out (odd c.args.line.now (length out) c.if-line-gt-DIGIT_LIMIT.false c.if-line-ne0.true) in
-    record { answers = p.0; writes = p.1 }
-
-pub returns-then-not-all_hex : goal.returns-then-not-all_hex
-returns-then-not-all_hex c =
-    let out = c.args.out.now in
-    let not-all = sym c.all_hex.ensures ∙ c.if-not-all_hex.true in
-    let p = bad_is c.args.line.now out (other c.args.line.now (length out) c.if-line-gt-DIGIT_LIMIT.false not-all) in
+    let bad : spelled line (length out) ≡ none = elim c.then-line-gt-DIGIT_LIMIT.branch [
+      | then-line-gt-DIGIT_LIMIT-via-then-line-gt-DIGIT_LIMIT w ↦ too_many line (length out) w.if-line-gt-DIGIT_LIMIT.true
+      | then-line-gt-DIGIT_LIMIT-via-else-line-gt-DIGIT_LIMIT+then-line-ne0 w ↦ odd line (length out) w.if-line-gt-DIGIT_LIMIT.false w.if-line-ne0.true
+      | then-line-gt-DIGIT_LIMIT-via-else-line-gt-DIGIT_LIMIT+else-line-ne0+then-not-all_hex w
+          ↦ other line (length out) w.if-line-gt-DIGIT_LIMIT.false (sym w.all_hex.ensures ∙ w.if-not-all_hex.true)
+    ] in
+    let p = bad_is line out bad in
     record { answers = p.0; writes = p.1 }
 
 pub returns-then-count-out : goal.returns-then-count-out

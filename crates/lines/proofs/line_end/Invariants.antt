@@ -1,11 +1,6 @@
--- `lines::line_end` meets its contract. No LF stands before `at`.
-use Prim.Native.Nat.{◌-◌}
-use lib.ListN.{length}
+-- `lines::line_end` meets its contract. No LF stands before `i`.
 use Rattle.lines.specs.helpers.Ends.{NoneBefore}
 use Rattle.lines.proofs.line_end.Given as goal
 
-abbrev pub invariant-loop-at : goal.invariant-loop-at
-invariant-loop-at l = NoneBefore l.s l.at
-
-abbrev pub decreases-loop-at : goal.decreases-loop-at
-decreases-loop-at l = length l.s - l.at
+abbrev pub invariant-loop-i : goal.invariant-loop-i
+invariant-loop-i l = NoneBefore l.s l.i

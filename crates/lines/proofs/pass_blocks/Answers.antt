@@ -1,16 +1,15 @@
--- `lines::pass_blocks` meets its contract. No LF stands before `at`.
-use mathlib.Core.Path.{sym, ◌∙◌}
-use Prim.Native.Nat.{◌+◌}
+-- `lines::pass_blocks` meets its contract. No LF stands in the blocks so far.
+use mathlib.Core.Path.{◌≡◌, sym, subst, ◌∙◌}
+use Prim.Native.Nat.{◌+◌, ◌*◌}
 use native.Mathlib.Omega.{arith}
+use Rattle.lines.specs.helpers.Ends.{NoneBefore}
 use Rattle.lines.proofs.Ends.{none-behind}
 use Rattle.lines.proofs.pass_blocks.Goals as goal
 
-pub loop-at-init : goal.loop-at-init
-loop-at-init c = (omega arith, omega arith)
-
-pub loop-at-preserved : goal.loop-at-preserved
-loop-at-preserved c =
-    let loop = c.loop-at in
+pub loop-block-preserved : goal.loop-block-preserved
+loop-block-preserved c =
     let s = c.args.s.now in
-    let inner = sym c.is_inner.ensures ∙ c.if-not-is_inner.false in
-    none-behind s loop.at (loop.at + 64) loop.invariant (omega arith) (omega arith) inner
+    let at = 64 * c.loop-block.block in
+    let next : at + 64 ≡ 64 * (c.loop-block.block + 1) = omega arith in
+    subst (NoneBefore s) next
+    (none-behind s at (at + 64) c.loop-block.invariant (omega arith) (omega arith) (sym c.is_inner.ensures ∙ c.if-not-is_inner.false))
