@@ -23,8 +23,8 @@ use Rattle.framing.proofs.Demands as Framing
 use Rattle.framing.proofs.Ranks.{among_each}
 use Rattle.lines.specs.Grammar.{DIGIT_LIMIT}
 use Rattle.lines.specs.Reading.{spelled, hex_answer, hex_output}
-use Rattle.lines.specs.declared.Hex.{Hex}
-use Rattle.lines.specs.declared.Hex.TheVariants.{Bytes, Bad}
+use Rattle.std.specs.Prelude as P
+use Rattle.std.specs.Prelude.{Some, None}
 use Rattle.lines.proofs.Demands as Lines
 use Rattle.lines.proofs.Hexes as Hexes
 use Rattle.chunked.specs.declared.Answer.{Answer as Coded}
@@ -167,17 +167,17 @@ said_clip l = split (ltb DIGIT_LIMIT (length l))
     (λ e. ap (λ (z : List ℕ). said_bytes (spelled z ROOM)) (take_all LINE_LENGTH l (omega (arith, ltb-false DIGIT_LIMIT (length l) e))))
 
 -- ## What is said of a line
-pub said_bad : (l : List ℕ) (r : Hex) → r ≡ hex_answer (spelled l ROOM) → r ≡ Bad → said l ≡ bytes "X\n"
+pub said_bad : (l : List ℕ) (r : P.Option ℕ) → r ≡ hex_answer (spelled l ROOM) → r ≡ None → said l ≡ bytes "X\n"
 unfolding said said_bytes
 said_bad l r e b = by (spelled l ROOM) (sym b ∙ e)
   where
-    by : (o : Option (List ℕ)) → Bad ≡ hex_answer o → said_bytes o ≡ bytes "X\n"
+    by : (o : Option (List ℕ)) → None ≡ hex_answer o → said_bytes o ≡ bytes "X\n"
     by none k = refl
     by (some ys) k = let z : ◌≡◌ {A = ℕ} 0 1 = cc in absurd (omega arith)
 
 -- the bytes of a good line stand at the front of the frame
-pub said-good : (l : List ℕ) (r : Hex) (n : ℕ) (old new : List ℕ) → length old ≡ ROOM
-    → r ≡ hex_answer (spelled l (length old)) → r ≡ Bytes n
+pub said-good : (l : List ℕ) (r : P.Option ℕ) (n : ℕ) (old new : List ℕ) → length old ≡ ROOM
+    → r ≡ hex_answer (spelled l (length old)) → r ≡ Some n
     → new ≡ hex_output (spelled l (length old)) old
     → (n ≤ length new) × (said l ≡ said_answer (decode ROOM (take n new)))
 unfolding said said_bytes
@@ -185,7 +185,7 @@ said-good l r n old new len e b w =
     by (spelled l ROOM) refl (sym b ∙ e ∙ ap (λ (k : ℕ). hex_answer (spelled l k)) len)
     (w ∙ ap (λ (k : ℕ). hex_output (spelled l k) old) len)
   where
-    by : (o : Option (List ℕ)) → spelled l ROOM ≡ o → Bytes n ≡ hex_answer o → new ≡ hex_output o old
+    by : (o : Option (List ℕ)) → spelled l ROOM ≡ o → Some n ≡ hex_answer o → new ≡ hex_output o old
         → (n ≤ length new) × (said_bytes o ≡ said_answer (decode ROOM (take n new)))
     by none s k f = let z : ◌≡◌ {A = ℕ} 0 1 = cc in absurd (omega arith)
     by (some ys) s k f =
@@ -214,8 +214,8 @@ pub said-refused : (n p : ℕ) → said_answer (refused n p) ≡ numbers (bytes 
 unfolding said_answer
 said-refused n p = refl
 
-pub said-decoded : (l : List ℕ) (r : Hex) (n : ℕ) (old new : List ℕ) (h : length old ≡ ROOM)
-    (e : r ≡ hex_answer (spelled l (length old))) (b : r ≡ Bytes n)
+pub said-decoded : (l : List ℕ) (r : P.Option ℕ) (n : ℕ) (old new : List ℕ) (h : length old ≡ ROOM)
+    (e : r ≡ hex_answer (spelled l (length old))) (b : r ≡ Some n)
     (w : new ≡ hex_output (spelled l (length old)) old) (room : ℕ) (v : Answer Whole)
     → room ≡ ROOM → v ≡ decode room (take n new) → said_answer v ≡ said l
 said-decoded l r n old new h e b w room v k d =

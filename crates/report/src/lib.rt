@@ -7,6 +7,7 @@ ghost use Rattle.chunked.specs.Verdict.{verdict};
 ghost use Rattle.report.specs.Saying.{numbers, said_answer};
 
 use chunked::Answer;
+use numerals::Base;
 
 // Puts what is said of an answer at `at` where it fits, and gives the place behind it. Where it does not, `out` stays as it was, and the
 // place is `at`.
@@ -17,7 +18,7 @@ pub fn put_answer(answer: Answer, out: &mut [u8], at: usize) -> usize
     match answer {
         Answer::Whole(body) => put_two(b"C ", body.taken as u64, body.length as u64, out, at),
         Answer::More => text::put_bytes(b"M\n", out, at),
-        Answer::Refused(why) => put_two(b"R ", why.number as u64, why.place as u64, out, at),
+        Answer::Refused(why) => put_two(b"R ", why.number() as u64, why.place() as u64, out, at),
     }
 }
 
@@ -26,16 +27,15 @@ fn put_two(begin: &[u8], first: u64, second: u64, out: &mut [u8], at: usize) -> 
     ensures ends { result ≡ behind out.old at (numbers begin.now first second) }
     ensures says { out.new ≡ placed out.old at (numbers begin.now first second) }
 {
-    let len = begin.len() + numerals::decimal_width(first) + numerals::decimal_width(second) + 2;
-    if at > out.len() {
+    let first_width = numerals::width(first, Base::Decimal);
+    let second_width = numerals::width(second, Base::Decimal);
+    let len = begin.len() + first_width + second_width + 2;
+    if at > out.len() || len > out.len() - at {
         return at;
     }
-    if len > out.len() - at {
-        return at;
-    }
-    let mut end = text::put_bytes(begin, out, at);
-    end = text::put_decimal(first, out, end);
-    end = text::put_bytes(b" ", out, end);
-    end = text::put_decimal(second, out, end);
-    text::put_bytes(b"\n", out, end)
+    let begin_end = text::put_bytes(begin, out, at);
+    let first_end = text::put_numeral(first, Base::Decimal, out, begin_end);
+    let blank_end = text::put_bytes(b" ", out, first_end);
+    let second_end = text::put_numeral(second, Base::Decimal, out, blank_end);
+    text::put_bytes(b"\n", out, second_end)
 }

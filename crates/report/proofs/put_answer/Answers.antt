@@ -1,5 +1,5 @@
 -- `report::put_answer` meets its contract. By the case of the answer.
-use mathlib.Core.Path.{ap}
+use mathlib.Core.Path.{◌≡◌, sym, ap, ap₂, ◌∙◌}
 use Rattle.grammar.specs.Text.{bytes}
 use Rattle.framing.specs.Answer.{whole, more, refused}
 use Rattle.chunked.specs.Verdict.{verdict}
@@ -26,9 +26,11 @@ returns-in-More c =
 
 pub returns-in-Refused : goal.returns-in-Refused
 returns-in-Refused c =
-    let refusal = c.in-Refused.why in
-    let r = shows c.args.answer (refused refusal.number refusal.place) (ap verdict c.in-Refused.is)
-    c.args.out.now c.args.at (numbers (bytes "R ") refusal.number refusal.place)
-    c.put_two-in-Refused.new.out c.put_two-in-Refused.result (said-refused refusal.number refusal.place)
+    let number = c.number.result in
+    let place = c.place.result in
+    let is : verdict c.args.answer ≡ refused number place
+    = ap verdict c.in-Refused.is ∙ ap₂ refused (sym c.number.ensures) (sym c.place.ensures) in
+    let r = shows c.args.answer (refused number place) is c.args.out.now c.args.at (numbers (bytes "R ") number place)
+    c.put_two-in-Refused.new.out c.put_two-in-Refused.result (said-refused number place)
     (c.put_two-in-Refused.ensures.ends, c.put_two-in-Refused.ensures.says) in
     record { ends = r.0; says = r.1 }
