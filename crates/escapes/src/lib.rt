@@ -1,44 +1,65 @@
 // Paths and queries, resolved: each escape that is not needed is its character. RFC 2616 3.2.3.
 #![tactic(auto)]
 
-ghost use Rattle.std.specs.Prelude.{◌≡◌, ◌≤◌, ◌<◌, leb, length};
+ghost use Rattle.std.specs.Prelude.{◌≡◌, ◌≤◌, Some, None, if◌then◌else◌, leb, length};
+ghost use Rattle.std.specs.Iterator.{YieldsFirst, item_count};
 ghost use Rattle.octets.specs.Same.{same?};
 ghost use Rattle.numerals.specs.Numeral.{put};
 ghost use Rattle.text.specs.Placing.{placed, behind};
-ghost use Rattle.escapes.specs.Resolved.{resolved};
-ghost use Rattle.escapes.specs.helpers.Units.{Resolves, percent?};
+ghost use Rattle.escapes.specs.Resolved.{escaped_byte, unneeded?, resolved};
+ghost use Rattle.escapes.specs.helpers.Units.{percent?};
 
 use octets::Class;
 
 // The bytes whose escapes are not needed.
 const UNRESERVED: Class = [0x3ff678200000000, 0x47fffffe87fffffe, 0, 0];
 
-// A byte of a resolved text, and the place behind what it stands for.
-#[derive(Clone, Copy)]
-struct Unit {
-    byte: u8,
-    next: usize,
+// The bytes of a resolved text, one by one, given what is left of the text.
+#[derive(Drop)]
+struct ResolvedBytes<'a>(&'a [u8]);
+
+impl<'a> Iterator for ResolvedBytes<'a> {
+    type Item = u8;
+
+    ghost next_gives = { YieldsFirst (λ s. resolved s.0.now) };
+
+    ghost remaining = { item_count (λ s. resolved s.0.now) };
+
+    fn next(&mut self) -> Option<u8> {
+        if let [b'%', x, y, rest @ ..] = self.0
+            && let Some(byte) = unneeded(*x, *y)
+        {
+            self.0 = rest;
+            return Some(byte);
+        }
+        let (first, rest) = self.0.split_first()?;
+        self.0 = rest;
+        Some(*first)
+    }
+}
+
+// The byte that the hex digits of an escape name, where the escape is not needed.
+fn unneeded(x: u8, y: u8) -> Option<u8>
+    ensures { result ≡ (if unneeded? x y then Some (escaped_byte x y) else None) }
+{
+    let high = octets::hex_value(x);
+    let low = octets::hex_value(y);
+    if high > 15 || low > 15 {
+        return None;
+    }
+    let byte = high * 16 + low;
+    if octets::in_class(UNRESERVED, byte) {
+        Some(byte)
+    } else {
+        None
+    }
 }
 
 // Are two texts the same, once they are resolved?
 pub fn same(a: &[u8], b: &[u8]) -> bool
     ensures { result ≡ same? (resolved a.now) (resolved b.now) }
 {
-    let mut i = 0;
-    let mut j = 0;
-    while i < a.len() {
-        if b.len() <= j {
-            return false;
-        }
-        let x = unit_at(a, i);
-        let y = unit_at(b, j);
-        if x.byte != y.byte {
-            return false;
-        }
-        i = x.next;
-        j = y.next;
-    }
-    b.len() <= j
+    ResolvedBytes(a).eq(ResolvedBytes(b))
 }
 
 // How many bytes has a text, once it is resolved?
@@ -48,14 +69,7 @@ pub fn resolved_len(s: &[u8]) -> usize
     if !has_percent(s) {
         return s.len();
     }
-    let mut len = 0;
-    let mut i = 0;
-    while i < s.len() {
-        let unit = unit_at(s, i);
-        i = unit.next;
-        len += 1;
-    }
-    len
+    ResolvedBytes(s).count()
 }
 
 // Does a `%` stand in the text? Without an early exit many bytes are looked at in one step.
@@ -63,12 +77,10 @@ fn has_percent(s: &[u8]) -> bool
     ensures { result ≡ percent? s.now }
 {
     let mut found = false;
-    let mut i = 0;
-    while i < s.len() {
-        if s[i] == b'%' {
+    for b in s {
+        if *b == b'%' {
             found = true;
         }
-        i += 1;
     }
     found
 }
@@ -82,10 +94,7 @@ pub fn put_resolved(s: &[u8], out: &mut [u8], at: usize) -> usize
     if !has_percent(s) {
         return text::put_bytes(s, out, at);
     }
-    if at > out.len() {
-        return at;
-    }
-    if !fits(s, out.len() - at) {
+    if at > out.len() || !fits(s, out.len() - at) {
         return at;
     }
     at + fill(&mut out[at..], s)
@@ -95,10 +104,7 @@ pub fn put_resolved(s: &[u8], out: &mut [u8], at: usize) -> usize
 fn fits(s: &[u8], room: usize) -> bool
     ensures { result ≡ leb (length (resolved s.now)) room }
 {
-    if s.len() <= room {
-        return true;
-    }
-    resolved_len(s) <= room
+    s.len() <= room || resolved_len(s) <= room
 }
 
 // Puts a resolved text, which fits, at the front of `dst`, and gives its length.
@@ -108,43 +114,9 @@ fn fill(dst: &mut [u8], s: &[u8]) -> usize
     ensures writes { dst.new ≡ put (resolved s.now) dst.old }
 {
     let mut len = 0;
-    let mut i = 0;
-    while i < s.len() {
-        let unit = unit_at(s, i);
-        dst[len] = unit.byte;
-        i = unit.next;
+    for byte in ResolvedBytes(s) {
+        dst[len] = byte;
         len += 1;
     }
     len
-}
-
-// The byte that stands at `i`; of an escape that is not needed, its character.
-fn unit_at(s: &[u8], i: usize) -> Unit
-    requires { i < length s.now }
-    ensures { Resolves s.now i result }
-{
-    let b = s[i];
-    let as_sent = Unit {
-        byte: b,
-        next: i + 1,
-    };
-    if b != b'%' {
-        return as_sent;
-    }
-    if s.len() - i < 3 {
-        return as_sent;
-    }
-    let high = octets::hex_value(s[i + 1]);
-    let low = octets::hex_value(s[i + 2]);
-    if high > 15 {
-        return as_sent;
-    }
-    if low > 15 {
-        return as_sent;
-    }
-    let byte = high * 16 + low;
-    if !octets::in_class(UNRESERVED, byte) {
-        return as_sent;
-    }
-    Unit { byte, next: i + 3 }
 }

@@ -8,7 +8,7 @@ ghost use Rattle.octets.specs.Reading.{verdict};
 ghost use Rattle.octets.specs.helpers.Bits.{Bits};
 ghost use Rattle.http_url.specs.Bytes.{path?};
 ghost use Rattle.http_url.specs.Grammar.{rules};
-ghost use Rattle.http_url.specs.Places.{text_at};
+ghost use Rattle.http_url.specs.Places.{text_at, path_at};
 ghost use Rattle.http_url.specs.helpers.Scan.{Hexes, Stretch, Found, AfterHost, PortRead, BeforePath, BeforeQuery};
 ghost use Rattle.http_url.specs.helpers.Scan.{host_start, url_with};
 
@@ -76,6 +76,16 @@ pub fn text_at(s: &[u8], x: Span) -> &[u8]
 {
     let rest = s.get(x.start..).unwrap_or(&[]);
     rest.get(..x.length).unwrap_or(rest)
+}
+
+// The path of a URL; an absent one is `/`.
+pub fn path_at(s: &[u8], u: Url) -> &[u8]
+    ensures { result.now ≡ path_at s.now u }
+{
+    match u.path {
+        Some(x) => text_at(s, x),
+        None => b"/",
+    }
 }
 
 // The port behind the host, and the place where a path may begin.

@@ -21,7 +21,7 @@ use Rattle.http_url.specs.declared.Url.{Url}
 use Rattle.http_url.specs.Grammar as G
 use Rattle.http_url.specs.Grammar.{Name, url, is_host, is_path, is_query, named, host_span, place, rules}
 use Rattle.http_url.proofs.Demands.{one_way}
-use Rattle.http_url.specs.Places.{text_at}
+use Rattle.http_url.specs.Places.{text_at, path_at}
 use Rattle.escapes.specs.Resolved.{resolved}
 use Rattle.url_equal.specs.Meaning.{lower_all, host_text, path_text, query_text, page, pages, same_query, same_page}
 use Rattle.url_equal.specs.Places.{Inside, Within, path_in, query_in, page_in, Placed}
@@ -94,6 +94,9 @@ module _ (s t : List ℕ) (u v : Url) where
 
   pub host-compared : (x y : List ℕ) (b : Bool) → x ≡ text_at s u.host → y ≡ text_at t v.host → b ≡ alike x y → hosts ≡ b
   host-compared x y b e f g = sym (g ∙ ap₂ alike e f ∙ alike-lower (text_at s u.host) (text_at t v.host))
+
+  pub paths-compared : (x y : List ℕ) (b : Bool) → x ≡ path_at s u → y ≡ path_at t v → b ≡ same? (resolved x) (resolved y) → b ≡ paths
+  paths-compared x y b e f g = g ∙ ap₂ (λ (p q : List ℕ). same? (resolved p) (resolved q)) e f
 
   pub by_host : hosts ≡ false → false ≡ equal
   by_host e = rw e

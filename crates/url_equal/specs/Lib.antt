@@ -1,4 +1,3 @@
 pub mod Meaning
 pub mod Equality
 pub mod Places
-pub mod helpers

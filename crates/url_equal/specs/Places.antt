@@ -1,29 +1,26 @@
 -- What stands at the places that reading gave.
-use Rattle.std.specs.Prelude.{ℕ, ◌+◌, ◌≤◌, List, length}
+use Rattle.std.specs.Prelude as P
+use Rattle.std.specs.Prelude.{ℕ, ◌+◌, ◌≤◌, List, Some, None, length}
 use Rattle.std.proofs.Math.Option.{Option, none, some}
-use Rattle.grammar.specs.Text.{bytes}
 use Rattle.http_url.specs.declared.Span.{Span}
-use Rattle.http_url.specs.declared.Place.{Place}
-use Rattle.http_url.specs.declared.Place.TheVariants.{Absent, At}
 use Rattle.http_url.specs.declared.Url.{Url}
-use Rattle.http_url.specs.Places.{text_at}
+use Rattle.http_url.specs.Places.{text_at, path_text}
 use Rattle.escapes.specs.Resolved.{resolved}
 use Rattle.url_equal.specs.Meaning.{Page, lower_all}
 
 abbrev pub Inside : List ℕ → Span → Type 0
 Inside s x = x.start + x.length ≤ length s
 
-abbrev pub Within : List ℕ → Place → Type 0
-Within s Absent = 0 ≤ length s
-Within s (At x) = Inside s x
+abbrev pub Within : List ℕ → P.Option Span → Type 0
+Within s None = 0 ≤ length s
+Within s (Some x) = Inside s x
 
-abbrev pub path_in : List ℕ → Place → List ℕ
-path_in s Absent = bytes "/"
-path_in s (At x) = resolved (text_at s x)
+abbrev pub path_in : List ℕ → P.Option Span → List ℕ
+path_in s p = resolved (path_text s p)
 
-abbrev pub query_in : List ℕ → Place → Option (List ℕ)
-query_in s Absent = none
-query_in s (At x) = some (resolved (text_at s x))
+abbrev pub query_in : List ℕ → P.Option Span → Option (List ℕ)
+query_in s None = none
+query_in s (Some x) = some (resolved (text_at s x))
 
 abbrev pub page_in : List ℕ → Url → Page
 page_in s u = record {

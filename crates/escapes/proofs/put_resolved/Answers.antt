@@ -3,13 +3,13 @@ use Prim.Native.Nat.{◌-◌}
 use native.Mathlib.Omega.{arith}
 use borrow.Author.Tests.{leb-true, leb-false}
 use mathlib.Core.Path.{sym, ap, ◌∙◌}
-use lib.ListN.{length, drop, length-drop}
-use lib.Seq.{length-take-le}
+use lib.ListN.{length}
 use Rattle.text.specs.Placing.{placed, behind}
 use Rattle.text.proofs.Placing.{puts_nothing, number_fits}
 use Rattle.escapes.specs.Resolved.{resolved}
 use Rattle.escapes.proofs.Resolved.{no_percent}
 use Rattle.escapes.proofs.put_resolved.Goals as goal
+use Rattle.escapes.proofs.put_resolved.Goals.{then-at-out-via-then-at-out, then-at-out-via-else-at-out+then-not-fits}
 
 pub returns-then-not-has_percent : goal.returns-then-not-has_percent
 returns-then-not-has_percent c =
@@ -22,32 +22,12 @@ returns-then-not-has_percent c =
 pub returns-then-at-out : goal.returns-then-at-out
 returns-then-at-out c =
     let x = c.args in
-    let r = puts_nothing x.out.now x.at (resolved x.s.now) (omega arith) in
-    record { ends = r.0; writes = r.1 }
-
-pub returns-then-not-fits : goal.returns-then-not-fits
-returns-then-not-fits c =
-    let f = c.fits in
-    let x = c.args in
     let n = length (resolved x.s.now) in
-    let over = leb-false n (length x.out.now - x.at) (sym f.ensures ∙ c.if-not-fits.true) in
-    let r = puts_nothing x.out.now x.at (resolved x.s.now) (omega (arith, over)) in
+    let r = puts_nothing x.out.now x.at (resolved x.s.now) (elim c.then-at-out.branch [
+      | then-at-out-via-then-at-out w ↦ omega (arith, w.if-at-out)
+      | then-at-out-via-else-at-out+then-not-fits w ↦ omega (arith, leb-false n (length x.out.now - x.at) (sym w.fits.ensures ∙ w.if-not-fits.true))
+    ]) in
     record { ends = r.0; writes = r.1 }
-
-pub fill-requires : goal.fill-requires
-fill-requires c =
-    let f = c.fits in
-    let x = c.args in
-    let room = length x.out.now - x.at in
-    let h = leb-true (length (resolved x.s.now)) room (sym f.ensures ∙ c.if-not-fits.false) in
-    omega (arith, h, length-take-le room (drop x.at x.out.now) (omega (arith, length-drop x.at x.out.now)))
-
-pub overflow_add-result : goal.overflow_add-result
-overflow_add-result c =
-    let f = c.fits in
-    let x = c.args in
-    let h = leb-true (length (resolved x.s.now)) (length x.out.now - x.at) (sym f.ensures ∙ c.if-not-fits.false) in
-    omega (arith, h, c.fill.ensures.counts)
 
 pub returns : goal.returns
 returns c =

@@ -1,44 +1,18 @@
--- `escapes::same` meets its contract: what is left of both is the same just where the whole is.
-use native.Mathlib.Omega.{arith}
-use borrow.Author.Tests.{ne_eqb, eq-eqb}
-use mathlib.Core.Path.{refl, sym, ap₂, ◌∙◌}
+-- `escapes::same` meets its contract: both iterators give the resolved bytes.
+use Rattle.std.proofs.Common.{List, ℕ, sym, ap, ◌∙◌}
 use Rattle.octets.specs.Same.{same?}
-use Rattle.escapes.proofs.Resolved.{both-ended, first-longer}
+use Rattle.escapes.specs.declared.ResolvedBytes.{ResolvedBytes}
+use Rattle.escapes.specs.Resolved.{resolved}
+use Rattle.escapes.proofs.Compared.{same-behind, same-last}
 use Rattle.escapes.proofs.same.Goals as goal
 
-pub loop-i-init : goal.loop-i-init
-loop-i-init c = (omega arith, omega arith, refl)
-
-pub returns-then-b-j : goal.returns-then-b-j
-returns-then-b-j c =
-    let l = c.loop-i in
-    let x = c.args in
-    sym (first-longer x.a.now x.b.now l.i l.j c.loop-i-test.true c.if-b-j.true) ∙ l.invariant.2
-
-pub returns-then-x-y : goal.returns-then-x-y
-returns-then-x-y c =
-    let l = c.loop-i in
-    let u = c.unit_at-x in
-    let v = c.unit_at-y in
-    sym (ap₂ same? u.ensures.is v.ensures.is ∙ rw (ne_eqb u.result.byte v.result.byte c.if-x-y.true)) ∙ l.invariant.2
-
-pub loop-i-smaller : goal.loop-i-smaller
-loop-i-smaller c =
-    let u = c.unit_at-x in
-    omega (arith, u.ensures.on, u.ensures.within)
-
-pub loop-i-preserved : goal.loop-i-preserved
-loop-i-preserved c =
-    let l = c.loop-i in
-    let u = c.unit_at-x in
-    let v = c.unit_at-y in (
-      u.ensures.within,
-      v.ensures.within,
-      sym (ap₂ same? u.ensures.is v.ensures.is ∙ rw (eq-eqb u.result.byte v.result.byte c.if-x-y.false)) ∙ l.invariant.2,
-    )
+left : ResolvedBytes → List ℕ
+left s = resolved s.0.now
 
 pub returns : goal.returns
+unfolding left
 returns c =
-    let l = c.loop-i in
-    let x = c.args in
-    both-ended x.a.now x.b.now l.i l.j c.loop-i-test.false ∙ l.invariant.2
+    let w = c.eq.ensures.ran in
+    same-last left w.8.0 w.9.0 w.5 w.6 w.3 w.4 c.eq.result w.8.2 w.9.2 w.11
+    ∙ sym (same-behind left (record { 0 = c.args.a }) w.0 w.1 w.2 w.8.0 w.9.0 w.8.1 w.9.1 w.10)
+    ∙ ap (λ (z : ResolvedBytes). same? (resolved c.args.a.now) (left z)) w.7

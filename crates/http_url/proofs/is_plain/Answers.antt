@@ -1,5 +1,5 @@
 -- `http_url::is_plain` meets its contract: computed over all bytes, one that becomes one of a to z is in a path.
-use Rattle.std.proofs.Common.{◌≡◌, ℕ, ◌+◌, ◌%◌, ◌<◌, ◌≤◌, Bool, true, cond, leb, refl, ap, ◌∙◌, arith, le-leb, ltb-true}
+use Rattle.std.proofs.Common.{◌≡◌, ℕ, ◌<◌, ◌≤◌, Bool, true, cond, leb, refl, ap, ◌∙◌, arith, le-leb, ltb-true}
 use Rattle.grammar.specs.Grammar.{lower}
 use Rattle.octets.specs.Bytes.{within, digit?, letter?}
 use Rattle.octets.proofs.Spans.{by_range}

@@ -1,51 +1,52 @@
 -- `url_equal::equal` meets its contract: by the two readings, and what each URL means.
-use Prim.Native.Nat.{ℕ}
-use mathlib.Core.Path.{◌≡◌, sym, ap, ap₂, ◌∙◌}
-use mathlib.Core.List.{List}
+use Rattle.std.proofs.Common.{◌≡◌, Result, Ok, Err, MatchResult, IsErrAnd, sym, refl, ap, ap₂, ◌∙◌}
+use Rattle.std.proofs.lemmas.Result.{MatchResult-at_err}
 use Rattle.grammar.specs.Comparing.{compare, outcome}
-use Rattle.grammar.specs.Reading.{refused}
 use Rattle.grammar.specs.helpers.Judge.{header}
 use Rattle.octets.specs.declared.Refusal.{Refusal}
-use Rattle.http_url.specs.declared.Reading.{Reading}
-use Rattle.http_url.specs.declared.Reading.TheVariants.{Refused}
-use Rattle.http_url.specs.Grammar.{rules}
+use Rattle.octets.specs.declared.PairRefusal.{PairRefusal}
+use Rattle.octets.specs.declared.PairRefusal.TheVariants.{First, Second}
+use Rattle.octets.specs.Reading.{number_of, place_of, verdict}
+use Rattle.http_url.specs.declared.Url.{Url}
 use Rattle.url_equal.specs.Meaning.{same_page, pages}
-use Rattle.http_url.specs.Reading.{verdict}
-use Rattle.url_equal.specs.helpers.Refusals.{refusal_of}
 use Rattle.url_equal.proofs.Meaning.{means, means-nothing}
 use Rattle.url_equal.proofs.equal.Goals as goal
 
--- a reading that was refused, as the comparison tells it
-refused_as : (s : List ℕ) (r : Reading) (x y : Refusal) → verdict r ≡ header rules s → r ≡ Refused y → x ≡ refusal_of r
-    → header pages s ≡ refused x.number x.place
-refused_as s r x y e f g =
-    let z : x ≡ y = g ∙ ap refusal_of f in
-    means-nothing s x.number x.place (sym e ∙ ap verdict f ∙ ap (λ (w : Refusal). refused w.number w.place) (sym z))
+-- a reading that was refused, and its refusal as the comparison tells it
+mapped : (f : Refusal → PairRefusal) (r : Result Url Refusal) (y : Result Url PairRefusal) (z : PairRefusal)
+    → MatchResult r (λ x. y ≡ Ok x) (λ e. IsErrAnd y (λ p. p ≡ f e)) → y ≡ Err z → (e : Refusal) × (r ≡ Err e) × (z ≡ f e)
+mapped f (Ok x) y z h k = absurd (let e = sym h ∙ k in cc)
+mapped f (Err e) (Ok u) z h k = absurd cc
+mapped f (Err e) (Err u) z h k = (e, refl, let g : u ≡ z = cc in sym g ∙ h)
+
+-- a reading that was not
+kept : (f : Refusal → PairRefusal) (r : Result Url Refusal) (y : Result Url PairRefusal) (u : Url)
+    → MatchResult r (λ x. y ≡ Ok x) (λ e. IsErrAnd y (λ p. p ≡ f e)) → y ≡ Ok u → r ≡ Ok u
+kept f (Ok x) y u h k = let e = sym h ∙ k in cc
+kept f (Err e) (Ok v) u h k = absurd h
+kept f (Err e) (Err v) u h k = absurd cc
 
 pub returns-in_default : goal.returns-in_default
 returns-in_default c =
     let x = c.args in
-    let r = refused_as x.a.now c.read-first.result c.refusal.result _ c.read-first.ensures c.in_default.is c.refusal.ensures in
-    sym (ap (λ v. compare same_page v (header pages x.b.now)) r)
+    let m = mapped First c.read.result c.map_err-first.result c.in_default.field-0 c.map_err-first.ensures.cases c.in_default.is in
+    let r = means-nothing x.a.now (number_of m.0) (place_of m.0) (sym c.read.ensures ∙ ap verdict m.1) in
+    let e = MatchResult-at_err _ (λ d. c.map.result ≡ Err d) _ c.in_default.is c.map.ensures.cases in
+    rw (e, m.2) (sym (ap (λ v. compare same_page v (header pages x.b.now)) r))
 
 pub returns-in_default-second : goal.returns-in_default-second
 returns-in_default-second c =
     let x = c.args in
-    let d = c.refusal-in_default-second in
-    let m = means x.a.now _ (sym c.read-first.ensures ∙ ap verdict c.in-Read.is) in
-    let r = refused_as x.b.now c.read-second.result d.result _ c.read-second.ensures c.in_default-second.is d.ensures in
-    sym (ap₂ (compare same_page) m.1 r)
+    let d = c.in_default-second in
+    let k = means x.a.now _ (sym c.read.ensures ∙ ap verdict (kept First c.read.result c.map_err-first.result _ c.map_err-first.ensures.cases c.in-Ok.is)) in
+    let m = mapped Second c.read-2.result c.map_err-second.result d.field-0 c.map_err-second.ensures.cases d.is in
+    let r = means-nothing x.b.now (number_of m.0) (place_of m.0) (sym c.read-2.ensures ∙ ap verdict m.1) in
+    let e = MatchResult-at_err _ (λ z. c.map-in_default-second.result ≡ Err z) _ d.is c.map-in_default-second.ensures.cases in
+    rw (e, m.2) (sym (ap₂ (compare same_page) k.1 r))
 
-pub returns-then-same_url : goal.returns-then-same_url
-returns-then-same_url c =
+pub returns : goal.returns
+returns c =
     let x = c.args in
-    let m = means x.a.now _ (sym c.read-first.ensures ∙ ap verdict c.in-Read.is) in
-    let n = means x.b.now _ (sym c.read-second.ensures ∙ ap verdict c.in-Read-second.is) in
-    ap outcome (sym c.if-same_url.true ∙ c.same_url.ensures) ∙ sym (ap₂ (compare same_page) m.1 n.1)
-
-pub returns-else-same_url : goal.returns-else-same_url
-returns-else-same_url c =
-    let x = c.args in
-    let m = means x.a.now _ (sym c.read-first.ensures ∙ ap verdict c.in-Read.is) in
-    let n = means x.b.now _ (sym c.read-second.ensures ∙ ap verdict c.in-Read-second.is) in
-    ap outcome (sym c.if-same_url.false ∙ c.same_url.ensures) ∙ sym (ap₂ (compare same_page) m.1 n.1)
+    let k = means x.a.now _ (sym c.read.ensures ∙ ap verdict (kept First c.read.result c.map_err-first.result _ c.map_err-first.ensures.cases c.in-Ok.is)) in
+    let l = means x.b.now _ (sym c.read-2.ensures ∙ ap verdict (kept Second c.read-2.result c.map_err-second.result _ c.map_err-second.ensures.cases c.in-Ok-second.is)) in
+    ap outcome c.same_url.ensures ∙ sym (ap₂ (compare same_page) k.1 l.1)
