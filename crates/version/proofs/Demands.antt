@@ -19,7 +19,7 @@ use Rattle.octets.specs.Bytes.{digit?}
 use Rattle.octets.proofs.Writing.{stands_in_front}
 use Rattle.version_writer.proofs.Writer.{both-within}
 use Rattle.version.specs.declared.Version.{Version}
-use Rattle.version.specs.declared.Order.TheVariants.{Less, Equal, Greater}
+use Rattle.std.specs.declared.cmp.Ordering.TheVariants.{Less, Equal, Greater}
 use Rattle.version.specs.Grammar.{version, largest, rules}
 use Rattle.version.specs.Reading.{precedence, http_1_1, http_1_0}
 use Rattle.version.specs.Writing.{version_text, too_large, version_writing, version_output}

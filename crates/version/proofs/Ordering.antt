@@ -6,10 +6,10 @@ use mathlib.Core.Path.{◌≡◌, refl, sym}
 use mathlib.Core.Logic.{◌⊎◌, inl, inr, ◌↔◌}
 use mathlib.Core.Bool.{Bool, true, false, cond}
 use lib.Dec.{ltb}
-use Rattle.version.specs.declared.Order.{Order}
-use Rattle.version.specs.declared.Order.TheVariants.{Less, Equal, Greater}
+use Rattle.std.specs.declared.cmp.Ordering.{Ordering}
+use Rattle.std.specs.declared.cmp.Ordering.TheVariants.{Less, Equal, Greater}
 
-abbrev pub order : ℕ → ℕ → ℕ → ℕ → Order
+abbrev pub order : ℕ → ℕ → ℕ → ℕ → Ordering
 order a b c d = cond (ltb a c) Less (cond (ltb c a) Greater (cond (ltb b d) Less (cond (ltb d b) Greater Equal)))
 
 abbrev pub Precedes : ℕ → ℕ → ℕ → ℕ → Type 0
@@ -32,7 +32,7 @@ module _ (a b c d : ℕ) where
   both_equal e f = rw (le-ltb a c (omega arith), le-ltb c a (omega arith), le-ltb b d (omega arith), le-ltb d b (omega arith))
 
 -- what an order tells of the numbers
-data Decided (a b c d : ℕ) : Order → Type 0 where
+data Decided (a b c d : ℕ) : Ordering → Type 0 where
   first : Precedes a b c d → Decided a b c d Less
   second : Precedes c d a b → Decided a b c d Greater
   neither : a ≡ c → b ≡ d → Decided a b c d Equal
@@ -59,7 +59,7 @@ module _ (a b c d : ℕ) where
   pub less_is : (order a b c d ≡ Less) ↔ Precedes a b c d
   less_is = (to (decided a b c d), of)
     where
-      to : {o : Order} → Decided a b c d o → o ≡ Less → Precedes a b c d
+      to : {o : Ordering} → Decided a b c d o → o ≡ Less → Precedes a b c d
       to (first p) e = p
       to (second p) e = let z : ◌≡◌ {A = ℕ} 0 1 = cc in absurd (omega arith)
       to (neither p q) e = let z : ◌≡◌ {A = ℕ} 0 1 = cc in absurd (omega arith)
@@ -71,7 +71,7 @@ module _ (a b c d : ℕ) where
   pub greater_is : (order a b c d ≡ Greater) ↔ Precedes c d a b
   greater_is = (to (decided a b c d), of)
     where
-      to : {o : Order} → Decided a b c d o → o ≡ Greater → Precedes c d a b
+      to : {o : Ordering} → Decided a b c d o → o ≡ Greater → Precedes c d a b
       to (first p) e = let z : ◌≡◌ {A = ℕ} 0 1 = cc in absurd (omega arith)
       to (second p) e = p
       to (neither p q) e = let z : ◌≡◌ {A = ℕ} 0 1 = cc in absurd (omega arith)
@@ -83,7 +83,7 @@ module _ (a b c d : ℕ) where
   pub equal_is : (order a b c d ≡ Equal) ↔ ((a ≡ c) × (b ≡ d))
   equal_is = (to (decided a b c d), λ h. both_equal a b c d h.0 h.1)
     where
-      to : {o : Order} → Decided a b c d o → o ≡ Equal → (a ≡ c) × (b ≡ d)
+      to : {o : Ordering} → Decided a b c d o → o ≡ Equal → (a ≡ c) × (b ≡ d)
       to (first p) e = let z : ◌≡◌ {A = ℕ} 0 1 = cc in absurd (omega arith)
       to (second p) e = let z : ◌≡◌ {A = ℕ} 0 1 = cc in absurd (omega arith)
       to (neither p q) e = (p, q)

@@ -1,19 +1,11 @@
--- Document 01's numbers and values for each case of the answer; the order of versions; the versions that have names.
+-- The order of versions; the versions that have names.
 use Rattle.std.specs.Prelude.{ℕ, cond, ltb}
-use Rattle.grammar.specs.Reading as G
-use Rattle.grammar.specs.Reading.{Verdict}
+use Rattle.std.specs.declared.cmp.Ordering.{Ordering}
+use Rattle.std.specs.declared.cmp.Ordering.TheVariants.{Less, Equal, Greater}
 use Rattle.version.specs.declared.Version.{Version}
-use Rattle.version.specs.declared.Reading.{Reading}
-use Rattle.version.specs.declared.Reading.TheVariants.{Read, Refused}
-use Rattle.version.specs.declared.Order.{Order}
-use Rattle.version.specs.declared.Order.TheVariants.{Less, Equal, Greater}
-
-abbrev pub verdict : Reading → Verdict Version
-verdict (Read v) = G.value v
-verdict (Refused r) = G.refused r.number r.place
 
 -- by major, then minor, as numbers
-abbrev pub precedence : Version → Version → Order
+abbrev pub precedence : Version → Version → Ordering
 precedence v w =
     cond (ltb v.major w.major) Less (cond (ltb w.major v.major) Greater
     (cond (ltb v.minor w.minor) Less (cond (ltb w.minor v.minor) Greater Equal)))

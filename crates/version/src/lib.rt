@@ -4,13 +4,14 @@
 ghost use Rattle.std.specs.Prelude.{◌≡◌, length};
 ghost use Rattle.grammar.specs.helpers.Judge.{header};
 ghost use Rattle.version.specs.Grammar.{rules};
-ghost use Rattle.version.specs.Reading.{verdict, precedence, numbered, http_1_1, http_1_0};
+ghost use Rattle.version.specs.Reading.{precedence, numbered, http_1_1, http_1_0};
 ghost use Rattle.version.specs.helpers.Scan.{AfterMajor};
 ghost use Rattle.version.specs.Writing.{version_writing, version_output};
-ghost use Rattle.octets.specs.Writing.{written};
+ghost use Rattle.octets.specs.Reading.{verdict};
 
-use octets::{MALFORMED, NUMBER_ABOVE_LIMIT, Refusal, VALUE_LIMIT, VALUE_TOO_LONG, Written};
+use octets::Refusal;
 use scans::Decimal;
+use std::cmp::Ordering;
 
 // The largest number in a version.
 const NUMBER_LIMIT: u64 = 65535;
@@ -18,23 +19,11 @@ const NUMBER_LIMIT: u64 = 65535;
 // The bytes of the name and its slash.
 const NAME_LEN: usize = 5;
 
-#[derive(Clone, Copy)]
+// Ordered by major, then minor, as numbers: in the order of the fields.
+#[derive(Clone, Copy, Debug, PartialEq, Eq, PartialOrd, Ord)]
 pub struct Version {
     pub major: u32,
     pub minor: u32,
-}
-
-#[derive(Clone, Copy)]
-pub enum Reading {
-    Read(Version),
-    Refused(Refusal),
-}
-
-#[derive(Clone, Copy)]
-pub enum Order {
-    Less,
-    Equal,
-    Greater,
 }
 
 impl Version {
@@ -42,60 +31,34 @@ impl Version {
 
     pub const HTTP_1_0: Version = Version { major: 1, minor: 0 };
 
-    // Ordered by major, then minor, as numbers. A constant has no contract: what the two above are is promised here.
-    pub fn compare(self, other: Version) -> Order
+    // The order of versions. A constant has no contract: what the two above are is promised here.
+    pub fn compare(self, other: Version) -> Ordering
         ensures orders { result ≡ precedence self other }
         ensures later { numbered Self.HTTP_1_1.major Self.HTTP_1_1.minor ≡ http_1_1 }
         ensures earlier { numbered Self.HTTP_1_0.major Self.HTTP_1_0.minor ≡ http_1_0 }
     {
-        if self.major < other.major {
-            return Order::Less;
-        }
-        if self.major > other.major {
-            return Order::Greater;
-        }
-        if self.minor < other.minor {
-            return Order::Less;
-        }
-        if self.minor > other.minor {
-            return Order::Greater;
-        }
-        Order::Equal
+        self.cmp(&other)
     }
 
     // `HTTP/` in any letter case, digits, `.`, digits.
-    pub fn read(s: &[u8]) -> Reading
+    pub fn read(s: &[u8]) -> Result<Version, Refusal>
         ensures { verdict result ≡ header rules s.now }
     {
-        if s.len() > VALUE_LIMIT {
-            return Reading::Refused(Refusal {
-                number: VALUE_TOO_LONG,
-                place: VALUE_LIMIT,
-            });
-        }
+        octets::check_length(s)?;
         let agreed = scans::word_at(b"HTTP/", s, 0);
         if agreed < NAME_LEN {
-            return Reading::Refused(Refusal {
-                number: MALFORMED,
-                place: agreed,
-            });
+            return Err(Refusal::Malformed(agreed));
         }
         match scans::read_decimal(s, NAME_LEN, NUMBER_LIMIT) {
             Decimal::Number { value, end } => read_minor(s, value, end),
-            Decimal::Above { place, end: _ } => Reading::Refused(Refusal {
-                number: NUMBER_ABOVE_LIMIT,
-                place,
-            }),
-            Decimal::Missing => Reading::Refused(Refusal {
-                number: MALFORMED,
-                place: NAME_LEN,
-            }),
+            Decimal::Above { place, .. } => Err(Refusal::NumberAboveLimit(place)),
+            Decimal::Missing => Err(Refusal::Malformed(NAME_LEN)),
         }
     }
 
     // Writes the version at the front of `out`, in capitals and without leading zeros, and keeps the rest of `out`.
-    pub fn write(self, out: &mut [u8]) -> Written
-        ensures answers { written result ≡ version_writing self (length out.old) }
+    pub fn write(self, out: &mut [u8]) -> Result<usize, Refusal>
+        ensures answers { verdict result ≡ version_writing self (length out.old) }
         ensures writes { out.new ≡ version_output self out.old }
     {
         version_writer::write(self.major, self.minor, out)
@@ -103,42 +66,24 @@ impl Version {
 }
 
 // Reads on from the place behind the major number.
-fn read_minor(s: &[u8], major: u64, at: usize) -> Reading
+fn read_minor(s: &[u8], major: u64, at: usize) -> Result<Version, Refusal>
     requires { AfterMajor s.now major at }
     ensures { verdict result ≡ header rules s.now }
 {
-    if s.len() <= at {
-        return Reading::Refused(Refusal {
-            number: MALFORMED,
-            place: at,
-        });
-    }
-    if s[at] != b'.' {
-        return Reading::Refused(Refusal {
-            number: MALFORMED,
-            place: at,
-        });
+    if at >= s.len() || s[at] != b'.' {
+        return Err(Refusal::Malformed(at));
     }
     match scans::read_decimal(s, at + 1, NUMBER_LIMIT) {
-        Decimal::Above { place, end: _ } => Reading::Refused(Refusal {
-            number: NUMBER_ABOVE_LIMIT,
-            place,
-        }),
-        Decimal::Missing => Reading::Refused(Refusal {
-            number: MALFORMED,
-            place: at + 1,
-        }),
         Decimal::Number { value, end } => {
             if end < s.len() {
-                return Reading::Refused(Refusal {
-                    number: MALFORMED,
-                    place: end,
-                });
+                return Err(Refusal::Malformed(end));
             }
-            Reading::Read(Version {
+            Ok(Version {
                 major: major as u32,
                 minor: value as u32,
             })
         }
+        Decimal::Above { place, .. } => Err(Refusal::NumberAboveLimit(place)),
+        Decimal::Missing => Err(Refusal::Malformed(at + 1)),
     }
 }

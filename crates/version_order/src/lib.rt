@@ -6,28 +6,17 @@ ghost use Rattle.grammar.specs.Comparing.{compare as comparing};
 ghost use Rattle.grammar.specs.helpers.Judge.{header};
 ghost use Rattle.version.specs.Grammar.{rules};
 ghost use Rattle.version.specs.Reading.{precedence};
-ghost use Rattle.version_order.specs.Comparing.{comparison};
+ghost use Rattle.octets.specs.Comparing.{comparison};
 
-use octets::Refusal;
-use version::{Order, Reading, Version};
-
-// How two versions given as bytes compare, or which of them was refused.
-#[derive(Clone, Copy)]
-pub enum Compared {
-    Ordered(Order),
-    FirstRefused(Refusal),
-    SecondRefused(Refusal),
-}
+use octets::PairRefusal;
+use std::cmp::Ordering;
+use version::Version;
 
 // Reads the first, then the second, and compares them.
-pub fn compare(a: &[u8], b: &[u8]) -> Compared
+pub fn compare(a: &[u8], b: &[u8]) -> Result<Ordering, PairRefusal>
     ensures { comparison result ≡ comparing precedence (header rules a.now) (header rules b.now) }
 {
-    match Version::read(a) {
-        Reading::Refused(r) => Compared::FirstRefused(r),
-        Reading::Read(first) => match Version::read(b) {
-            Reading::Refused(r) => Compared::SecondRefused(r),
-            Reading::Read(second) => Compared::Ordered(first.compare(second)),
-        },
-    }
+    let first = Version::read(a).map_err(PairRefusal::First)?;
+    let second = Version::read(b).map_err(PairRefusal::Second)?;
+    Ok(first.compare(second))
 }
