@@ -7,7 +7,6 @@ ghost use Rattle.report.specs.Saying.{said};
 ghost use Rattle.report.specs.Calls.{piece_said, piece_held, last_said, Foremost};
 ghost use Rattle.bench.specs.helpers.Fits.{Buffers, PieceFits, LastFits, LineFits};
 
-use lines::Hex;
 use std::io::Read;
 
 // The room of a body, and of a frame: two digits make a byte.
@@ -55,7 +54,7 @@ fn run(
 }
 
 // Answers the lines that end with LF, and gives how many bytes are held of one behind them; 0 once a write failed, so that nothing more
-// is written. A proved loop has to end, and nothing says that an input does, so that the turns are counted down.
+// is written. A proved loop has to end, and nothing says that an input does, so that the reads are counted.
 fn read_all(
     rt: &(impl Input + Print + Eprint),
     piece: &mut [u8],
@@ -69,8 +68,7 @@ fn read_all(
 {
     let mut input = rt.reader();
     let mut held = 0;
-    let mut turns = u64::MAX;
-    while turns > 0 {
+    'reads: for _ in 0..u64::MAX {
         let count = match input.read(piece) {
             Ok(count) => count,
             Err(_) => {
@@ -87,7 +85,6 @@ fn read_all(
             return 0;
         }
         held = progress.held;
-        turns -= 1;
     }
     held
 }
@@ -145,7 +142,7 @@ fn put_last(line: &[u8], frame: &mut [u8], room: &mut [u8], out: &mut [u8]) -> u
     ensures says { Foremost result out.new (last_said line.now) }
     ensures keeps { out.new ≡ placed out.old 0 (last_said line.now) }
 {
-    if line.len() == 0 {
+    if line.is_empty() {
         return 0;
     }
     put_line(line, frame, room, out, 0)
@@ -157,9 +154,8 @@ fn put_line(line: &[u8], frame: &mut [u8], room: &mut [u8], out: &mut [u8], at: 
     ensures ends { result ≡ at + length (said line.now) }
     ensures says { out.new ≡ placed out.old at (said line.now) }
 {
-    let bytes = lines::from_hex(line, frame);
-    match bytes {
-        Hex::Bad => text::put_bytes(b"X\n", out, at),
-        Hex::Bytes(count) => report::put_answer(chunked::decode(&frame[..count], room), out, at),
+    match lines::from_hex(line, frame) {
+        Some(count) => report::put_answer(chunked::decode(&frame[..count], room), out, at),
+        None => text::put_bytes(b"X\n", out, at),
     }
 }

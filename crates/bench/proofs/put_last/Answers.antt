@@ -4,9 +4,9 @@ use Rattle.report.proofs.Says.{said-short}
 use Rattle.report.proofs.Pieces.{last-nothing, last-answered}
 use Rattle.bench.proofs.put_last.Goals as goal
 
-pub returns-then-line-eq0 : goal.returns-then-line-eq0
-returns-then-line-eq0 c =
-    let p = last-nothing c.args.line.now c.args.out.now c.if-line-eq0.true in
+pub returns-then-is_empty : goal.returns-then-is_empty
+returns-then-is_empty c =
+    let p = last-nothing c.args.line.now c.args.out.now (grind arith) in
     record { says = p.0; keeps = p.1 }
 
 pub put_line-requires : goal.put_line-requires
@@ -15,6 +15,6 @@ put_line-requires c =
 
 pub returns : goal.returns
 returns c =
-    let p = last-answered c.args.line.now c.args.out.now c.if-line-eq0.false c.requires.2 c.put_line.ensures.ends
+    let p = last-answered c.args.line.now c.args.out.now (grind arith) c.requires.2 c.put_line.ensures.ends
     c.put_line.ensures.says in
     record { says = p.0; keeps = p.1 }

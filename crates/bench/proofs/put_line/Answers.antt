@@ -12,27 +12,27 @@ use Rattle.bench.proofs.put_line.Goals as goal
 
 pub slice_bounds-decode-end : goal.slice_bounds-decode-end
 slice_bounds-decode-end c =
-    (said-good c.args.line.now c.from_hex-bytes.result c.in-Bytes.count c.args.frame.now
-    c.from_hex-bytes.new.out c.requires.0 c.from_hex-bytes.ensures.answers c.in-Bytes.is
-    c.from_hex-bytes.ensures.writes).0
+    (said-good c.args.line.now c.from_hex.result c.in-Some.count c.args.frame.now
+    c.from_hex.new.out c.requires.0 c.from_hex.ensures.answers c.in-Some.is
+    c.from_hex.ensures.writes).0
 
-pub returns-in-Bad : goal.returns-in-Bad
-returns-in-Bad c =
+pub returns-in-None : goal.returns-in-None
+returns-in-None c =
     let line = c.args.line.now in
-    let bad = said_bad line c.from_hex-bytes.result
-    (c.from_hex-bytes.ensures.answers ∙ ap (λ (k : ℕ). hex_answer (spelled line k)) c.requires.0)
-    c.in-Bad.is in
+    let bad = said_bad line c.from_hex.result
+    (c.from_hex.ensures.answers ∙ ap (λ (k : ℕ). hex_answer (spelled line k)) c.requires.0)
+    c.in-None.is in
     let p = shows-line line (bytes "X\n") c.args.out.now c.put_bytes.new.out c.args.at
     c.put_bytes.result (sym bad)
     (one-put c.args.out.now c.args.at (bytes "X\n") c.put_bytes.new.out c.put_bytes.result
     (omega (arith, c.requires.2, ap length bad)) c.put_bytes.ensures.ends c.put_bytes.ensures.writes) in
     record { ends = p.0; says = p.1 }
 
-pub returns-in-Bytes : goal.returns-in-Bytes
-returns-in-Bytes c =
-    let is = said-decoded c.args.line.now c.from_hex-bytes.result c.in-Bytes.count c.args.frame.now
-    c.from_hex-bytes.new.out c.requires.0 c.from_hex-bytes.ensures.answers c.in-Bytes.is
-    c.from_hex-bytes.ensures.writes
+pub returns-in-Some : goal.returns-in-Some
+returns-in-Some c =
+    let is = said-decoded c.args.line.now c.from_hex.result c.in-Some.count c.args.frame.now
+    c.from_hex.new.out c.requires.0 c.from_hex.ensures.answers c.in-Some.is
+    c.from_hex.ensures.writes
     (length c.args.room.now) (verdict c.decode.result) c.requires.1 c.decode.ensures.answers in
     let says = said_answer (verdict c.decode.result) in
     let p = shows-line c.args.line.now says c.args.out.now c.put_answer.new.out c.args.at
