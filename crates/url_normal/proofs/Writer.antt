@@ -11,8 +11,7 @@ use Rattle.numerals.proofs.Digits.{numeral-length, width-below}
 use Rattle.text.specs.Placing.{placed, behind}
 use Rattle.text.proofs.Placing.{placed-front, Put, put-none, put_then, front_fits, front-then, room-behind}
 use Rattle.http_url.specs.declared.Span.{Span}
-use Rattle.http_url.specs.declared.Place.{Place}
-use Rattle.http_url.specs.declared.Place.TheVariants.{Absent, At}
+use Rattle.std.specs.Prelude.{Option, Some, None}
 use Rattle.http_url.specs.Places.{text_at}
 use Rattle.http_url.specs.Grammar.{scheme}
 use Rattle.escapes.proofs.Resolved.{resolved-short}
@@ -47,13 +46,13 @@ few-digits n h = omega (arith, numeral-length 10 n, width-below 4 n (omega arith
 pub text-short : (s : List ℕ) (x : Span) → length (text_at s x) ≤ length s
 text-short s x = omega (arith, length-take x.length (drop x.start s), length-drop x.start s)
 
-pub path-short : (s : List ℕ) (p : Place) → length (path_in s p) ≤ length s + 1
-path-short s Absent = omega arith
-path-short s (At x) = omega (arith, resolved-short (text_at s x), text-short s x)
+pub path-short : (s : List ℕ) (p : Option Span) → length (path_in s p) ≤ length s + 1
+path-short s None = omega arith
+path-short s (Some x) = omega (arith, resolved-short (text_at s x), text-short s x)
 
-pub query-short : (s : List ℕ) (p : Place) → length (query_form (query_in s p)) ≤ length s + 1
-query-short s Absent = omega arith
-query-short s (At x) = omega (arith, resolved-short (text_at s x), text-short s x)
+pub query-short : (s : List ℕ) (p : Option Span) → length (query_form (query_in s p)) ≤ length s + 1
+query-short s None = omega arith
+query-short s (Some x) = omega (arith, resolved-short (text_at s x), text-short s x)
 
 module _ (p : Page) where
   -- the normal form as far as each of its parts but the last

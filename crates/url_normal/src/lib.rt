@@ -3,15 +3,16 @@
 
 ghost use Rattle.std.specs.Prelude.{◌≡◌, ◌++◌, min, ◌+◌, ◌≤◌, ◌<◌, length, drop};
 ghost use Rattle.grammar.specs.Reading.{value_limit};
-ghost use Rattle.octets.specs.Writing.{written};
+ghost use Rattle.octets.specs.Reading.{verdict};
 ghost use Rattle.text.specs.Placing.{placed, behind};
 ghost use Rattle.url_equal.specs.Meaning.{lower_all};
-ghost use Rattle.url_equal.specs.Places.{path_in, query_in, page_in};
+ghost use Rattle.url_equal.specs.Places.{query_in, page_in};
 ghost use Rattle.url_normal.specs.Normal.{port_form, query_form, normal, within_limit};
 ghost use Rattle.url_normal.specs.Normal.{answer_in_room, output_after, normal_writing, normal_output};
 
-use http_url::{Place, Reading, Url};
-use octets::{OUTPUT_TOO_SHORT, Refusal, VALUE_LIMIT, VALUE_TOO_LONG, Written};
+use http_url::{Span, Url};
+use numerals::Base;
+use octets::{Refusal, VALUE_LIMIT};
 
 // The bytes of `http://`.
 const SCHEME_LEN: usize = 7;
@@ -20,33 +21,28 @@ const SCHEME_LEN: usize = 7;
 const DEFAULT_PORT: u16 = 80;
 
 // Writes the normal form of a URL at the front of `out`, and keeps the rest of `out`.
-pub fn normalize(s: &[u8], out: &mut [u8]) -> Written
-    ensures answers { written result ≡ normal_writing s.now (length out.old) }
+pub fn normalize(s: &[u8], out: &mut [u8]) -> Result<usize, Refusal>
+    ensures answers { verdict result ≡ normal_writing s.now (length out.old) }
     ensures writes { out.new ≡ normal_output s.now out.old }
 {
-    match http_url::read(s) {
-        Reading::Refused(refusal) => Written::Refused(refusal),
-        Reading::Read(u) => write_parts(s, u, out),
-    }
+    let u = http_url::read(s)?;
+    write_parts(s, u, out)
 }
 
 // Writes the normal form of the URL whose parts these are.
-fn write_parts(s: &[u8], u: Url, out: &mut [u8]) -> Written
+fn write_parts(s: &[u8], u: Url, out: &mut [u8]) -> Result<usize, Refusal>
     requires { (length s.now ≤ value_limit) × (length (normal (page_in s.now u)) ≤ length s.now + 1) }
-    ensures answers { written result ≡ answer_in_room (within_limit (normal (page_in s.now u))) (length out.old) }
+    ensures answers { verdict result ≡ answer_in_room (within_limit (normal (page_in s.now u))) (length out.old) }
     ensures writes { out.new ≡ output_after (within_limit (normal (page_in s.now u))) out.old }
 {
     let len = len_or_bound(s, u, out.len());
     if len > VALUE_LIMIT {
-        return Written::Refused(Refusal {
-            number: VALUE_TOO_LONG,
-            place: VALUE_LIMIT,
-        });
+        return Err(Refusal::ValueTooLong);
     }
     if out.len() < len {
-        return octets::unwritten(OUTPUT_TOO_SHORT);
+        return Err(Refusal::OutputTooShort);
     }
-    Written::Length(put_parts(s, u, out))
+    Ok(put_parts(s, u, out))
 }
 
 // The length of the normal form, or a bound on it that is within the limit and the room. The form is at most one byte longer than the URL:
@@ -56,10 +52,8 @@ fn len_or_bound(s: &[u8], u: Url, room: usize) -> usize
     ensures bounds { length (normal (page_in s.now u)) ≤ result }
     ensures exact { min value_limit room < result → result ≡ length (normal (page_in s.now u)) }
 {
-    if s.len() < VALUE_LIMIT {
-        if s.len() < room {
-            return s.len() + 1;
-        }
+    if s.len() < VALUE_LIMIT && s.len() < room {
+        return s.len() + 1;
     }
     parts_len(s, u)
 }
@@ -69,14 +63,11 @@ fn parts_len(s: &[u8], u: Url) -> usize
     requires { length s.now ≤ value_limit }
     ensures { result ≡ length (normal (page_in s.now u)) }
 {
-    let host = u.host;
-    let path = u.path;
-    let query = u.query;
     SCHEME_LEN
-        + http_url::text_at(s, host).len()
+        + http_url::text_at(s, u.host).len()
         + port_len(u.port)
-        + path_len(s, path)
-        + query_len(s, query)
+        + escapes::resolved_len(http_url::path_at(s, u))
+        + query_len(s, u.query)
 }
 
 fn port_len(port: u16) -> usize
@@ -86,25 +77,16 @@ fn port_len(port: u16) -> usize
     if port == DEFAULT_PORT {
         return 0;
     }
-    1 + numerals::decimal_width(port as u64)
+    1 + numerals::width(port as u64, Base::Decimal)
 }
 
-fn path_len(s: &[u8], path: Place) -> usize
-    ensures { result ≡ length (path_in s.now path) }
-{
-    match path {
-        Place::Absent => 1,
-        Place::At(span) => escapes::resolved_len(http_url::text_at(s, span)),
-    }
-}
-
-fn query_len(s: &[u8], query: Place) -> usize
+fn query_len(s: &[u8], query: Option<Span>) -> usize
     requires { length s.now ≤ value_limit }
     ensures { result ≡ length (query_form (query_in s.now query)) }
 {
     match query {
-        Place::Absent => 0,
-        Place::At(span) => 1 + escapes::resolved_len(http_url::text_at(s, span)),
+        None => 0,
+        Some(span) => 1 + escapes::resolved_len(http_url::text_at(s, span)),
     }
 }
 
@@ -115,14 +97,11 @@ fn put_parts(s: &[u8], u: Url, out: &mut [u8]) -> usize
     ensures writes { out.new
         ≡ normal (page_in s.now u) ++ drop (length (normal (page_in s.now u))) out.old }
 {
-    let host = u.host;
-    let path = u.path;
-    let query = u.query;
     let scheme_end = text::put_bytes(b"http://", out, 0);
-    let host_end = put_lower(http_url::text_at(s, host), out, scheme_end);
+    let host_end = put_lower(http_url::text_at(s, u.host), out, scheme_end);
     let port_end = put_port(u.port, out, host_end);
-    let path_end = put_path(s, path, out, port_end);
-    put_query(s, query, out, path_end)
+    let path_end = escapes::put_resolved(http_url::path_at(s, u), out, port_end);
+    put_query(s, u.query, out, path_end)
 }
 
 // Each of these puts a part at `at`, where it fits, keeps the rest of `out`, and gives the place behind it.
@@ -141,10 +120,8 @@ fn fill_lower(dst: &mut [u8], s: &[u8])
     requires { length dst.old ≡ length s.now }
     ensures { dst.new ≡ lower_all s.now }
 {
-    let mut i = 0;
-    while i < s.len() {
-        dst[i] = octets::lower_case(s[i]);
-        i += 1;
+    for (i, b) in s.iter().enumerate() {
+        dst[i] = octets::lower_case(*b);
     }
 }
 
@@ -157,27 +134,17 @@ fn put_port(port: u16, out: &mut [u8], at: usize) -> usize
         return at;
     }
     let colon_end = text::put_bytes(b":", out, at);
-    text::put_decimal(port as u64, out, colon_end)
+    text::put_numeral(port as u64, Base::Decimal, out, colon_end)
 }
 
-fn put_path(s: &[u8], path: Place, out: &mut [u8], at: usize) -> usize
-    ensures ends { result ≡ behind out.old at (path_in s.now path) }
-    ensures writes { out.new ≡ placed out.old at (path_in s.now path) }
-{
-    match path {
-        Place::Absent => text::put_bytes(b"/", out, at),
-        Place::At(span) => escapes::put_resolved(http_url::text_at(s, span), out, at),
-    }
-}
-
-fn put_query(s: &[u8], query: Place, out: &mut [u8], at: usize) -> usize
+fn put_query(s: &[u8], query: Option<Span>, out: &mut [u8], at: usize) -> usize
     requires { at + length (query_form (query_in s.now query)) ≤ length out.old }
     ensures ends { result ≡ behind out.old at (query_form (query_in s.now query)) }
     ensures writes { out.new ≡ placed out.old at (query_form (query_in s.now query)) }
 {
     match query {
-        Place::Absent => at,
-        Place::At(span) => {
+        None => at,
+        Some(span) => {
             let mark_end = text::put_bytes(b"?", out, at);
             escapes::put_resolved(http_url::text_at(s, span), out, mark_end)
         }

@@ -3,6 +3,7 @@ use native.Mathlib.Omega.{arith}
 use mathlib.Core.Path.{ap}
 use lib.ListN.{length}
 use Rattle.http_url.specs.Places.{text_at}
+use Rattle.escapes.specs.Resolved.{resolved}
 use Rattle.url_equal.specs.Places.{page_in}
 use Rattle.url_normal.proofs.Writer.{lower-length, text-short, path-short, query-short, normal-length}
 use Rattle.url_normal.proofs.parts_len.Goals as goal
@@ -24,7 +25,8 @@ overflow_add-result-3 c =
       ap length c.text_at.ensures,
       text-short c.args.s.now c.args.u.host,
       c.port_len.ensures.small,
-      c.path_len.ensures,
+      c.resolved_len.ensures,
+      ap (λ t. length (resolved t)) c.path_at.ensures,
       path-short c.args.s.now c.args.u.path,
       c.requires,
     )
@@ -36,7 +38,8 @@ overflow_add-result-4 c =
       ap length c.text_at.ensures,
       text-short c.args.s.now c.args.u.host,
       c.port_len.ensures.small,
-      c.path_len.ensures,
+      c.resolved_len.ensures,
+      ap (λ t. length (resolved t)) c.path_at.ensures,
       path-short c.args.s.now c.args.u.path,
       c.query_len.ensures,
       query-short c.args.s.now c.args.u.query,
@@ -50,7 +53,8 @@ returns c =
       ap length c.text_at.ensures,
       lower-length (text_at c.args.s.now c.args.u.host),
       c.port_len.ensures.is,
-      c.path_len.ensures,
+      c.resolved_len.ensures,
+      ap (λ t. length (resolved t)) c.path_at.ensures,
       c.query_len.ensures,
       normal-length (page_in c.args.s.now c.args.u),
     )

@@ -12,11 +12,11 @@ returns-then-port-eq-DEFAULT_PORT c =
 
 pub overflow_add-result : goal.overflow_add-result
 overflow_add-result c =
-    omega (arith, c.decimal_width.ensures, few-digits c.args.port (omega (arith, c.ranges.port)))
+    omega (arith, c.width.ensures, few-digits c.args.port (omega (arith, c.ranges.port)))
 
 pub returns : goal.returns
 returns c =
     let n = c.args.port in record {
-      is = omega (arith, c.decimal_width.ensures, ap length (port-other n c.if-port-eq-DEFAULT_PORT.false));
-      small = omega (arith, c.decimal_width.ensures, few-digits n (omega (arith, c.ranges.port)));
+      is = omega (arith, c.width.ensures, ap length (port-other n c.if-port-eq-DEFAULT_PORT.false));
+      small = omega (arith, c.width.ensures, few-digits n (omega (arith, c.ranges.port)));
     }

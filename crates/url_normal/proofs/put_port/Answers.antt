@@ -15,7 +15,7 @@ returns-then-port-eq-DEFAULT_PORT c =
 pub returns : goal.returns
 returns c =
     let x = c.args in
-    let r = puts_two x.out.now x.at (port_form x.port) c.requires (58 ∷ []) c.put_bytes-colon_end.new.out (numeral 10 x.port) c.put_decimal.new.out
-    c.put_bytes-colon_end.result c.put_decimal.result (port-other x.port c.if-port-eq-DEFAULT_PORT.false)
-    c.put_bytes-colon_end.ensures.ends c.put_bytes-colon_end.ensures.writes c.put_decimal.ensures.ends c.put_decimal.ensures.writes in
+    let r = puts_two x.out.now x.at (port_form x.port) c.requires (58 ∷ []) c.put_bytes-colon_end.new.out (numeral 10 x.port) c.put_numeral.new.out
+    c.put_bytes-colon_end.result c.put_numeral.result (port-other x.port c.if-port-eq-DEFAULT_PORT.false)
+    c.put_bytes-colon_end.ensures.ends c.put_bytes-colon_end.ensures.writes c.put_numeral.ensures.ends c.put_numeral.ensures.writes in
     record { ends = r.0; writes = r.1 }

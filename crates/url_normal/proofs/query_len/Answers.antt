@@ -8,14 +8,14 @@ use Rattle.url_normal.specs.Normal.{query_form}
 use Rattle.url_normal.proofs.Writer.{query-short}
 use Rattle.url_normal.proofs.query_len.Goals as goal
 
-pub returns-in-At : goal.returns-in-At
-returns-in-At c =
+pub returns-in-Some : goal.returns-in-Some
+returns-in-Some c =
     let x = c.args in
     let e = c.resolved_len.ensures ∙ ap (λ t. length (resolved t)) c.text_at.ensures in
-    omega (arith, e, ap (λ p. length (query_form (query_in x.s.now p))) c.in-At.is)
+    omega (arith, e, ap (λ p. length (query_form (query_in x.s.now p))) c.in-Some.is)
 
 pub overflow_add-result : goal.overflow_add-result
 overflow_add-result c =
     let x = c.args in
     let e = c.resolved_len.ensures ∙ ap (λ t. length (resolved t)) c.text_at.ensures in
-    omega (arith, e, ap (λ p. length (query_form (query_in x.s.now p))) c.in-At.is, query-short x.s.now x.query, c.requires)
+    omega (arith, e, ap (λ p. length (query_form (query_in x.s.now p))) c.in-Some.is, query-short x.s.now x.query, c.requires)

@@ -15,7 +15,7 @@ pub returns-then-out-len : goal.returns-then-out-len
 returns-then-out-len c =
     let x = c.args in
     let l = c.len_or_bound-len.ensures.exact (omega arith) in
-    let r = no_room (normal (page_in x.s.now x.u)) x.out.now c.unwritten.result c.unwritten.ensures (omega (arith, l)) (omega (arith, l)) in
+    let r = no_room (normal (page_in x.s.now x.u)) x.out.now (omega (arith, l)) (omega (arith, l)) in
     record { answers = r.0; writes = r.1 }
 
 pub returns : goal.returns
