@@ -7,6 +7,8 @@ use mathlib.Core.Bool.{Bool, true, false, cond}
 use mathlib.Core.List.{List}
 use mathlib.Core.Option.{Option, none, some}
 use lib.Dec.{eqb}
+use Rattle.std.specs.Prelude as Std
+use Rattle.std.specs.Prelude.{Some, None}
 use lib.IntN.{ℤ, pos, negsuc}
 use mir.Syntax.{w64}
 use mir.Val.{SFits, to_z, of_z}
@@ -15,7 +17,7 @@ use Rattle.grammar.specs.Reading.{Fault, value, refused, no-such-date, wrong-day
 use Rattle.grammar.specs.Arguments.{Asked, in_range as argument-in-range}
 use Rattle.grammar.specs.helpers.Judge.{unless_fault}
 use Rattle.calendar.specs.declared.Fields.{Fields}
-use Rattle.calendar.specs.declared.Located.TheVariants.{At, Nowhere}
+use Rattle.calendar.specs.declared.Instant.{Instant}
 use Rattle.calendar.specs.Gregorian as Gregorian
 use Rattle.calendar.specs.Gregorian.{day_number, exists?}
 use Rattle.calendar.specs.Instants.{seconds_of, located, in_range?}
@@ -49,20 +51,22 @@ module _ (f : Fields) where
   abbrev day_of_week : ℕ
   day_of_week = Gregorian.weekday (day_number f.year f.month f.day)
 
-  pub located-is : (s : ℤ) (w : ℕ) → At s w ≡ located f → (exists? f ≡ true) × (s ≡ seconds_of f) × (w ≡ Gregorian.weekday (day_number f.year f.month f.day))
+  pub located-is : (i : Instant) → Some i ≡ located f
+      → (exists? f ≡ true) × (i.seconds ≡ seconds_of f) × (i.weekday ≡ Gregorian.weekday (day_number f.year f.month f.day))
   unfolding located
-  located-is s w e = go (exists? f) refl e
+  located-is i e = go (exists? f) refl e
     where
-      go : (t : Bool) → exists? f ≡ t → At s w ≡ cond t (At (seconds_of f) (Gregorian.weekday (day_number f.year f.month f.day))) Nowhere
-          → (exists? f ≡ true) × (s ≡ seconds_of f) × (w ≡ Gregorian.weekday (day_number f.year f.month f.day))
+      go : (t : Bool) → exists? f ≡ t → ◌≡◌ {A = Std.Option Instant} (Some i) (cond t (Some (record { seconds = seconds_of f; weekday = Gregorian.weekday (day_number f.year f.month f.day) })) None)
+          → (exists? f ≡ true) × (i.seconds ≡ seconds_of f) × (i.weekday ≡ Gregorian.weekday (day_number f.year f.month f.day))
       go true d e = (d, cc, cc)
       go false d e = absurd (let z : ◌≡◌ {A = ℕ} 0 1 = cc in omega arith)
 
-  nowhere_is : Nowhere ≡ located f → exists? f ≡ false
+  nowhere_is : None ≡ located f → exists? f ≡ false
   unfolding located
   nowhere_is e = go (exists? f) refl e
     where
-      go : (t : Bool) → exists? f ≡ t → Nowhere ≡ cond t (At (seconds_of f) (Gregorian.weekday (day_number f.year f.month f.day))) Nowhere → exists? f ≡ false
+      go : (t : Bool) → exists? f ≡ t → ◌≡◌ {A = Std.Option Instant} None (cond t (Some (record { seconds = seconds_of f; weekday = Gregorian.weekday (day_number f.year f.month f.day) })) None)
+          → exists? f ≡ false
       go true d e = absurd (let z : ◌≡◌ {A = ℕ} 0 1 = cc in omega arith)
       go false d e = d
 
@@ -71,20 +75,21 @@ module _ (f : Fields) where
   unfolding judged
   by_fault k o e = ap (λ (x : Option Fault). unless_fault x (value_of f)) (sym e)
 
-  pub judged_nowhere : (k : ℕ) → Nowhere ≡ located f → refused 3 0 ≡ judged k f
+  pub judged_nowhere : (k : ℕ) → None ≡ located f → refused 3 0 ≡ judged k f
   judged_nowhere k e = by_fault k (some no-such-date) (fault_nowhere k f (nowhere_is e))
 
-  pub judged_wrong : (k : ℕ) (s : ℤ) (w : ℕ) → At s w ≡ located f → (w ≡ k → ⊥) → refused 4 0 ≡ judged k f
-  judged_wrong k s w e n =
-      let l = located-is s w e in
-      by_fault k (some wrong-day) (fault_wrong k f l.0 (λ q. n (l.2 ∙ sym q)))
+  module _ (k : ℕ) (i : Instant) (e : Some i ≡ located f) where
+    pub judged_wrong : (i.weekday ≡ k → ⊥) → refused 4 0 ≡ judged k f
+    judged_wrong n =
+        let l = located-is i e in
+        by_fault k (some wrong-day) (fault_wrong k f l.0 (λ q. n (l.2 ∙ sym q)))
 
-  pub judged-right : (k : ℕ) (s : ℤ) (w : ℕ) → At s w ≡ located f → w ≡ k → value (record { fields = f; seconds = to_z w64 (of_z w64 s) }) ≡ judged k f
-  judged-right k s w e n =
-      let l = located-is s w e in
-      let b : SFits w64 (seconds_of f) = range-fits (seconds_of f) (in_range f l.0) in
-      ap (λ (z : ℤ). value (record { fields = f; seconds = z })) (ap (λ (z : ℤ). to_z w64 (of_z w64 z)) l.1 ∙ to_z-of_z b)
-      ∙ by_fault k none (fault-none k f l.0 (sym n ∙ l.2))
+    pub judged-right : i.weekday ≡ k → value (record { fields = f; seconds = to_z w64 (of_z w64 i.seconds) }) ≡ judged k f
+    judged-right n =
+        let l = located-is i e in
+        let b : SFits w64 (seconds_of f) = range-fits (seconds_of f) (in_range f l.0) in
+        ap (λ (z : ℤ). value (record { fields = f; seconds = z })) (ap (λ (z : ℤ). to_z w64 (of_z w64 z)) l.1 ∙ to_z-of_z b)
+        ∙ by_fault k none (fault-none k f l.0 (sym n ∙ l.2))
 
   pub judged-well : (k : ℕ) → exists? f ≡ true → k ≡ Gregorian.weekday (day_number f.year f.month f.day) → judged k f ≡ value (value_of f)
   judged-well k e w = sym (by_fault k none (fault-none k f e w))

@@ -21,13 +21,13 @@ use Rattle.octets.specs.Bytes.{digit?}
 use Rattle.octets.specs.Numbers.{number}
 use Rattle.calendar.specs.declared.Fields.{Fields}
 use Rattle.date.specs.declared.Places.{Places}
-use Rattle.date.specs.declared.Tail.{Tail}
-use Rattle.date.specs.declared.Tail.TheVariants.{Month, Stops}
+use Rattle.date.specs.declared.YearPlace.TheVariants.{Two, Four}
+use Rattle.std.specs.Prelude.{Result, Ok, Err}
 use Rattle.date.specs.Years.{PresentYear}
 use Rattle.date.specs.Grammar.{Name, weekday, month, day, year, short-year, hour, minute, second, months, rfc1123, rfc850, asctime, forms, rules}
 use Rattle.grammar.specs.helpers.Words.{begins}
 use Rattle.date.specs.Names.{month_names, day_names, first_name}
-use Rattle.date.specs.helpers.Scan.{tail_of, Inside, rest_of, rest_bytes, rfc850_head, day_part, Goes, AfterDay, AtRfc850, month_then, judged, year_from, Ending, fields_from}
+use Rattle.date.specs.helpers.Scan.{tail_of, Inside, rest_of, rest_bytes, rfc850_head, day_part, Goes, AfterDay, AtRfc850, month_then, judged, Ending, fields_from}
 use Rattle.grammar.specs.helpers.Words.{larger}
 use Rattle.octets.specs.helpers.Shapes.{fitting}
 use Rattle.date.specs.helpers.Shapes.{standing, longest}
@@ -192,9 +192,9 @@ module _ (y : ℕ) (s : List ℕ) (cs : List (Part Name)) (xs : List (Item Name)
   abbrev month_part : ℕ → Part Name
   month_part m = record { label = month m; start = at + 3; text = [] }
 
-  abbrev pub Reads : Tail → Type 0
-  Reads (Stops p) = from (rules y) s (ahead cs (months ⨾ g)) at ≡ refused 1 p
-  Reads (Month m) = (from (rules y) s (ahead cs (months ⨾ g)) at ≡ finished (rules y) ((cs ++ month_part m ∷ []) ++ parts s xs (at + 3)))
+  abbrev pub Reads : Result ℕ ℕ → Type 0
+  Reads (Err p) = from (rules y) s (ahead cs (months ⨾ g)) at ≡ refused 1 p
+  Reads (Ok m) = (from (rules y) s (ahead cs (months ⨾ g)) at ≡ finished (rules y) ((cs ++ month_part m ∷ []) ++ parts s xs (at + 3)))
       × (length s ≡ at + 3 + length (shape xs))
 
   module _ (k : ℕ) (h : first_name 1 month_names (drop at s) ≡ suc k) where
@@ -208,7 +208,7 @@ module _ (y : ℕ) (s : List ℕ) (cs : List (Part Name)) (xs : List (Item Name)
     behind-month = month-found y s cs g v firm at k h ∙ same ds
 
     by_end : fitting (shape xs) (drop (at + 3) s) ≡ length (shape xs) → (t : Bool) → ltb (at + 3 + n) (length s) ≡ t
-        → Reads (cond t (Stops (at + 3 + n)) (Month (suc k)))
+        → Reads (cond t (Err (at + 3 + n)) (Ok (suc k)))
     by_end e true f =
         let q : over xs (at + 3) ≡ at + 3 + n = over-length xs (at + 3) ∙ ap (λ (m : ℕ). at + 3 + m) (sym e) in
         behind-month ∙ lined.0 e
@@ -222,7 +222,7 @@ module _ (y : ℕ) (s : List ℕ) (cs : List (Part Name)) (xs : List (Item Name)
         )
 
     by_shape : (t : Bool) → ltb n (length (shape xs)) ≡ t
-        → Reads (cond t (Stops (at + 3 + n)) (cond (ltb (at + 3 + n) (length s)) (Stops (at + 3 + n)) (Month (suc k))))
+        → Reads (cond t (Err (at + 3 + n)) (cond (ltb (at + 3 + n) (length s)) (Err (at + 3 + n)) (Ok (suc k))))
     by_shape true f = behind-month ∙ lined.1 (ltb-true n (length (shape xs)) f)
     by_shape false f =
         by_end (omega (arith, ltb-false n (length (shape xs)) f, fit_bound (shape xs) (drop (at + 3) s))) (ltb (at + 3 + n) (length s)) refl
@@ -234,11 +234,11 @@ module _ (y : ℕ) (s : List ℕ) (cs : List (Part Name)) (xs : List (Item Name)
       by_month : (m : ℕ) → first_name 1 month_names (drop at s) ≡ m → Reads (tail_of s at (length (shape xs)) m n)
       by_month zero e = month_missed y s cs g v firm at e
       by_month (suc k) e =
-          subst (λ (t : Bool). Reads (cond t (Stops (at + longest month_names (drop at s))) (found k))) (sym (ne_eqb (suc k) 0 (λ z. omega arith)))
+          subst (λ (t : Bool). Reads (cond t (Err (at + longest month_names (drop at s))) (found k))) (sym (ne_eqb (suc k) 0 (λ z. omega arith)))
           (by_shape k e (ltb n (length (shape xs))) refl)
         where
-          found : ℕ → Tail
-          found k = cond (ltb n (length (shape xs))) (Stops (at + 3 + n)) (cond (ltb (at + 3 + n) (length s)) (Stops (at + 3 + n)) (Month (suc k)))
+          found : ℕ → Result ℕ ℕ
+          found k = cond (ltb n (length (shape xs))) (Err (at + 3 + n)) (cond (ltb (at + 3 + n) (length s)) (Err (at + 3 + n)) (Ok (suc k)))
 
 -- ## The forms: a head before the month, and a tail behind it
 
@@ -258,16 +258,16 @@ module _ (y : ℕ) (s : List ℕ) (k : ℕ) (hx : List (Item Name)) (hs : T (sou
     behind : header (rules y) s ≡ from (rules y) s (ahead (day_part k ∷ parts s hx 3) (months ⨾ g)) (over hx 3)
     behind = reads ∙ (line_reads (rules y) s (quiet y) hx (months ⨾ g) hs v c (day_part k ∷ []) 3).0 fit
 
-    abbrev Found : Tail → Type 0
+    abbrev Found : Result ℕ ℕ → Type 0
     Found = Reads y s (day_part k ∷ parts s hx 3) tx ts some-tail g v firm (over hx 3) same
 
     found : Found (month_then (shape tx) s (over hx 3))
     found = tail_reads y s (day_part k ∷ parts s hx 3) tx ts some-tail g v firm (over hx 3) same
 
-    stops_at : (q : ℕ) → month_then (shape tx) s (over hx 3) ≡ Stops q → header (rules y) s ≡ refused 1 q
+    stops_at : (q : ℕ) → month_then (shape tx) s (over hx 3) ≡ Err q → header (rules y) s ≡ refused 1 q
     stops_at q e = behind ∙ subst Found e found
 
-    ends_as : (m : ℕ) → month_then (shape tx) s (over hx 3) ≡ Month m
+    ends_as : (m : ℕ) → month_then (shape tx) s (over hx 3) ≡ Ok m
         → (header (rules y) s ≡ finished (rules y) (form_parts s k hx tx m)) × (length s ≡ over hx 3 + 3 + length (shape tx))
     ends_as m e =
         let r = subst Found e found in
@@ -299,12 +299,9 @@ abbrev rfc1123_tail : List (Item Name)
 rfc1123_tail = is 32 tt ∷ num year 3 ∷ is 32 tt ∷ clock gmt_items
 
 abbrev pub rfc1123_places : Places
-rfc1123_places = record { month = 8; year = 12; short = false; day = 5; time = 17 }
+rfc1123_places = record { month = 8; year = Four 12; day = 5; time = 17 }
 
 module _ (y : ℕ) (s : List ℕ) (k : ℕ) (a : Goes y rfc1123 s k) where
-  rfc1123-stops : fitting (shape rfc1123_head) (drop 3 s) < 5 → header (rules y) s ≡ refused 1 (3 + fitting (shape rfc1123_head) (drop 3 s))
-  rfc1123-stops = head-stops y s k rfc1123_head tt rfc1123_tail tt (omega arith) (line rfc1123_tail empty) refl refl (λ x. refl) (λ ds. refl) a.reads
-
   rfc1123-ending : fitting (shape rfc1123_head) (drop 3 s) ≡ 5 → Ending y s k (shape rfc1123_tail) rfc1123_places
   unfolding judged
   rfc1123-ending f =
@@ -323,7 +320,7 @@ abbrev rfc850_tail : List (Item Name)
 rfc850_tail = is 45 tt ∷ num short-year 1 ∷ is 32 tt ∷ clock gmt_items
 
 abbrev pub rfc850_places : ℕ → Places
-rfc850_places at = record { month = at; year = at + 4; short = true; day = at - 3; time = at + 7 }
+rfc850_places at = record { month = at; year = Two (at + 4); day = at - 3; time = at + 7 }
 
 abbrev Rfc850Reads : ℕ → List ℕ → ℕ → Type 0
 Rfc850Reads y s k =
@@ -374,7 +371,7 @@ abbrev one_day : Grammar Name
 one_day = line (is 32 tt ∷ num day 0 ∷ is 32 tt ∷ clock year_end) empty
 
 abbrev pub asctime_places : Places
-asctime_places = record { month = 4; year = 20; short = false; day = 8; time = 11 }
+asctime_places = record { month = 4; year = Four 20; day = 8; time = 11 }
 
 module _ (s : List ℕ) where
   standing-is : (i b : ℕ) → standing s i b ≡ true → (i < length s) × (get_or s i 0 ≡ b)
@@ -417,11 +414,6 @@ abbrev day_and_clock : Grammar Name
 day_and_clock = byte (just 32 tt) ⨾ (two_day ∣ one_day)
 
 module _ (y : ℕ) (s : List ℕ) (k : ℕ) (a : Goes y asctime s k) where
-  asctime-stops : fitting (32 ∷ []) (drop 3 s) < 1 → header (rules y) s ≡ refused 1 3
-  asctime-stops h =
-      let z : 3 + fitting (32 ∷ []) (drop 3 s) ≡ 3 = omega arith in
-      a.reads ∙ (line_reads (rules y) s (quiet y) (is 32 tt ∷ []) (months ⨾ day_and_clock) tt refl refl (day_part k ∷ []) 3).1 h ∙ ap (refused 1) z
-
   module _ (fit : fitting (32 ∷ []) (drop 3 s) ≡ 1) where
     two-ending : standing s 8 32 ≡ false → Ending y s k (shape two_tail) asctime_places
     unfolding judged
@@ -479,12 +471,6 @@ module _ (y : ℕ) (s : List ℕ) (k : ℕ) (a : AfterDay y s k) where
   no_end : ends (forms (rest_of k) (rest_bytes k)) 3 ≡ void
   no_end = ap (λ (x : Grammar Name). alt void (alt x void)) (long-shut k).3
 
-  pub goes-rfc1123 : standing s 3 44 ≡ true → Goes y rfc1123 s k
-  goes-rfc1123 e = to rfc1123 (λ at. rw ((standing-is s 3 44 e).1, (long-shut k).0) (alt-void (deriv rfc1123 3 44))) no_text no_end
-
-  pub goes-asctime : standing s 3 32 ≡ true → Goes y asctime s k
-  goes-asctime e = to asctime (λ at. rw ((standing-is s 3 32 e).1, (long-shut k).1)) no_text no_end
-
   pub goes-long : standing s 3 44 ≡ false → standing s 3 32 ≡ false → AtRfc850 y s k
   goes-long e f =
       to (long k) (λ at. rw (standing-not s 3 44 e at, standing-not s 3 32 f at) (alt-void (deriv (long k) 3 (get_or s 3 0))))
@@ -520,16 +506,10 @@ module _ (y : ℕ) (within : PresentYear y) (s : List ℕ) (short : length s ≤
 
 module _ (y : ℕ) (s : List ℕ) (k : ℕ) where
   module _ (a : Goes y rfc1123 s k) (n : ℕ) (e : n ≡ fitting (shape rfc1123_head) (drop 3 s)) where
-    pub rfc1123-stop : n < 5 → header (rules y) s ≡ refused 1 (3 + n)
-    rfc1123-stop h = rfc1123-stops y s k a (omega arith) ∙ ap (λ (m : ℕ). refused 1 (3 + m)) (sym e)
-
     pub rfc1123-end : 5 ≤ n → Ending y s k (shape rfc1123_tail) rfc1123_places
     rfc1123-end h = rfc1123-ending y s k a (omega (arith, fit_bound (shape rfc1123_head) (drop 3 s)))
 
   module _ (a : Goes y asctime s k) (n : ℕ) (e : n ≡ fitting (32 ∷ []) (drop 3 s)) where
-    pub asctime-stop : n < 1 → header (rules y) s ≡ refused 1 3
-    asctime-stop h = asctime-stops y s k a (omega arith)
-
     pub asctime-one : 1 ≤ n → standing s 8 32 ≡ true → Ending y s k (shape one_tail) asctime_places
     asctime-one h f = one-ending y s k a (omega (arith, fit_bound (32 ∷ []) (drop 3 s))) f
 
@@ -578,9 +558,3 @@ module _ (y : ℕ) (within : PresentYear y) (s : List ℕ) (short : length s ≤
 
   pub missed_day : (n l : ℕ) → n ≡ first_name 1 day_names (drop 0 s) → n ≡ 0 → l ≡ longest day_names (drop 0 s) → header (rules y) s ≡ refused 1 l
   missed_day n l e z f = day_missed y within s short (sym e ∙ z) ∙ ap (refused 1) (sym f)
-
-pub fields_read : (y : ℕ) (s : List ℕ) (k m : ℕ) (p : Places) (yr d h mi se : ℕ)
-    → yr ≡ year_from y s p.year p.short → d ≡ number (slice s p.day (p.day + 2))
-    → h ≡ number (slice s p.time (p.time + 2)) → mi ≡ number (slice s (p.time + 3) (p.time + 3 + 2)) → se ≡ number (slice s (p.time + 6) (p.time + 6 + 2))
-    → judged k (record { year = yr; month = m; day = d; hour = h; minute = mi; second = se }) ≡ judged k (fields_from y s m p)
-fields_read y s k m p yr d h mi se a b c e f = ap (judged k) (rw (a, b, c, e, f))

@@ -1,21 +1,23 @@
 -- Shapes and tables of names, as the loops of the code walk them.
-use Prim.Native.Nat.{ℕ, zero, suc, ◌+◌, ◌-◌, ◌*◌, ◌/◌, ◌≤◌, ◌<◌}
+use Prim.Native.Nat.{ℕ, zero, suc, ◌+◌, ◌*◌, ◌/◌, ◌≤◌, ◌<◌, min}
 use native.Mathlib.Omega.{arith}
 use native.Mathlib.Numerals.{add-one}
-use borrow.Author.Tests.{ne_eqb, eq-eqb, eqb-true, eqb-false, lt-ltb, le-ltb}
+use borrow.Author.Tests.{leb-true, leb-false, ne_eqb, eq-eqb, lt-ltb, le-ltb}
 use mathlib.Core.Path.{◌≡◌, refl, sym, ap, ap₂, ◌∙◌}
 use mathlib.Core.Bool.{Bool, true, false, cond, ◌&&◌}
 use mathlib.Core.List.{List, [], ◌∷◌, ◌++◌}
-use lib.Dec.{eqb}
-use lib.ListN.{length, get_or, take, drop, drop_of_length-le, length-drop}
+use lib.Dec.{eqb, leb}
+use Rattle.std.specs.Ordering.{nat_cmp, ord_max}
+use Rattle.std.proofs.lemmas.Grind.{common_steps}
+use lib.ListN.{length, get_or, drop, drop_of_length-le, length-drop}
 use lib.Seq.{drop-cons}
 use Rattle.grammar.specs.helpers.Scans.{slice}
 use Rattle.grammar.proofs.Scans.{slice-none, slice_snoc}
 use Rattle.octets.specs.Numbers.{number}
-use Rattle.date.specs.declared.Tail.TheVariants.{Month, Stops}
+use Rattle.std.specs.Prelude.{Some, None, Ok, Err}
 use Rattle.grammar.specs.helpers.Words.{begins}
 use Rattle.date.specs.Names.{month_names, first_name}
-use Rattle.date.specs.helpers.Scan.{tail_of, month_then}
+use Rattle.date.specs.helpers.Scan.{numbered, tail_of, month_then}
 use Rattle.grammar.specs.helpers.Words.{larger}
 use Rattle.octets.specs.helpers.Shapes.{stands_for, fitting}
 use Rattle.date.specs.helpers.Shapes.{longest}
@@ -29,19 +31,14 @@ fit_none : (w : List ℕ) → fitting w [] ≡ 0
 fit_none [] = refl
 fit_none (a ∷ w) = refl
 
-module _ (w s : List ℕ) (i j : ℕ) where
-  pub fit-shape-out : length w ≤ i → fitting (drop i w) (drop j s) ≡ 0
-  fit-shape-out h = rw (drop_of_length-le w h)
-
-  pub fit-text-out : length s ≤ j → fitting (drop i w) (drop j s) ≡ 0
-  fit-text-out h = ap (fitting (drop i w)) (drop_of_length-le s h) ∙ fit_none (drop i w)
-
-  module _ (a : i < length w) (b : j < length s) where
-    pub fit-differs : stands_for (get_or w i 0) (get_or s j 0) ≡ false → fitting (drop i w) (drop j s) ≡ 0
-    fit-differs e = rw (next-drop w i a, next-drop s j b, e)
-
-    pub fit_next : stands_for (get_or w i 0) (get_or s j 0) ≡ true → fitting (drop i w) (drop j s) ≡ suc (fitting (drop (i + 1) w) (drop (j + 1) s))
-    fit_next e = rw (next-drop w i a, next-drop s j b, e)
+module _ (w s : List ℕ) (i : ℕ) where
+  -- one of them is at its end
+  pub fit-out : min (length w) (length s) ≤ i → fitting (drop i w) (drop i s) ≡ 0
+  fit-out h = go (leb (length w) i) refl
+    where
+      go : (t : Bool) → leb (length w) i ≡ t → fitting (drop i w) (drop i s) ≡ 0
+      go true e = rw (drop_of_length-le w (leb-true (length w) i e))
+      go false e = ap (fitting (drop i w)) (drop_of_length-le s (omega (arith, h, leb-false (length w) i e))) ∙ fit_none (drop i w)
 
 pub fit_bound : (w t : List ℕ) → fitting w t ≤ length w
 fit_bound [] t = omega arith
@@ -127,9 +124,6 @@ module _ (names s : List ℕ) (at : ℕ) where
   abbrev pub Agrees : ℕ → ℕ → Type 0
   Agrees k j = (i : ℕ) → i < j → get_or s (at + i) 0 ≡ get_or names (3 * k + i) 0
 
-  pub none_passed : Passed 0
-  none_passed = (omega arith, refl)
-
   pub all-passed : (k : ℕ) → Passed k → length names / 3 ≤ k → 0 ≡ first_name 1 names (drop at s)
   all-passed k p h = sym (p.1 ∙ (few-names (drop (3 * k) names) (drop at s) (suc k) (omega (arith, length-drop (3 * k) names))).0)
 
@@ -179,31 +173,24 @@ module _ (names s : List ℕ) (at : ℕ) where
             rw (eq-eqb (get_or s at 0) (get_or names (3 * k) 0) one, eq-eqb (get_or s (at + 1) 0) (get_or names (3 * k + 1) 0) (e 1 (omega arith)))
             (rw (eq-eqb (get_or s (at + 2) 0) (get_or names (3 * k + 2) 0) (e 2 (omega arith))))
 
-  pub agrees-more : (k j : ℕ) → Agrees k j → get_or s (at + j) 0 ≡ get_or names (3 * k + j) 0 → Agrees k (j + 1)
-  agrees-more k j a e i h = go (eqb i j) refl
-    where
-      go : (x : Bool) → eqb i j ≡ x → get_or s (at + i) 0 ≡ get_or names (3 * k + i) 0
-      go true q = rw (eqb-true i j q) e
-      go false q = a i (less i j h (eqb-false i j q))
-        where
-          less : (i j : ℕ) → i < j + 1 → (i ≡ j → ⊥) → i < j
-          less i j h d = omega (arith, d)
-
 -- ## The longest beginning of a name
 
 pub larger-none : (m : ℕ) → larger m 0 ≡ m
 larger-none zero = refl
 larger-none (suc m) = refl
 
-pub larger-right : (m n : ℕ) → m < n → larger m n ≡ n
+larger-right : (m n : ℕ) → m ≤ n → larger m n ≡ n
 larger-right zero n h = refl
 larger-right (suc m) zero h = absurd (omega arith)
 larger-right (suc m) (suc n) h = ap suc (larger-right m n (omega arith))
 
-pub larger-left : (m n : ℕ) → n ≤ m → larger m n ≡ m
+larger-left : (m n : ℕ) → n ≤ m → larger m n ≡ m
 larger-left zero n h = omega arith
 larger-left (suc m) zero h = refl
 larger-left (suc m) (suc n) h = ap suc (larger-left m n (omega arith))
+
+pub larger-max : (m n : ℕ) → ord_max nat_cmp m n ≡ larger m n
+larger-max m n = grind (arith, common_steps, larger-right, larger-left)
 
 larger_assoc : (a b c : ℕ) → larger (larger a b) c ≡ larger a (larger b c)
 larger_assoc zero b c = refl
@@ -227,24 +214,24 @@ longest_bound (a ∷ b ∷ []) t = omega arith
 longest_bound (a ∷ b ∷ c ∷ names) t =
     larger_bound (fitting (a ∷ b ∷ c ∷ []) t) (longest names t) 3 (fit_bound (a ∷ b ∷ c ∷ []) t) (longest_bound names t)
 
-module _ (names t : List ℕ) (best k : ℕ) (inv : larger best (longest (drop k names) t) ≡ longest names t) where
-  pub longest-end : length names - k < 3 → best ≡ longest names t
-  longest-end h =
-      sym (larger-none best) ∙ ap (larger best) (sym (few-names (drop k names) t 0 (omega (arith, length-drop k names))).1) ∙ inv
+longest_three : (name rest t : List ℕ) → length name ≡ 3 → longest (name ++ rest) t ≡ larger (fitting name t) (longest rest t)
+longest_three [] rest t h = absurd (omega (arith, h))
+longest_three (a ∷ []) rest t h = absurd (omega (arith, h))
+longest_three (a ∷ b ∷ []) rest t h = absurd (omega (arith, h))
+longest_three (a ∷ b ∷ c ∷ []) rest t h = refl
+longest_three (a ∷ b ∷ c ∷ d ∷ name) rest t h = absurd (omega (arith, h))
 
-  module _ (at : k + 3 ≤ length names) where
-    part-is : take (k + 3 - k) (drop k names) ≡ three_at names k []
-    part-is =
-        let e : k + 3 - k ≡ 3 = omega arith in
-        ap (λ (n : ℕ). take n (drop k names)) e ∙ ap (take 3) (three names k at)
+-- the rest of a table, behind names of which best is the longest beginning; the longest of all is m
+pub longest-end : (rest t : List ℕ) (best m : ℕ) → larger best (longest rest t) ≡ m → length rest < 3 → best ≡ m
+longest-end rest t best m inv h = sym (larger-none best) ∙ ap (larger best) (sym (few-names rest t 0 h).1) ∙ inv
 
-    pub longest-on : (n b : ℕ) → n ≡ fitting (take (k + 3 - k) (drop k names)) t → b ≡ larger best n → larger b (longest (drop (k + 3) names) t) ≡ longest names t
-    longest-on n b e d =
-        ap (λ (x : ℕ). larger x (longest (drop (k + 3) names) t)) d
-        ∙ larger_assoc best n (longest (drop (k + 3) names) t)
-        ∙ ap (larger best)
-        (ap (λ (x : ℕ). larger x (longest (drop (k + 3) names) t)) (e ∙ ap (λ (w : List ℕ). fitting w t) part-is) ∙ sym (ap (λ (l : List ℕ). longest l t) (three names k at)))
-        ∙ inv
+pub longest-on : (name rest more t : List ℕ) (best n b m : ℕ) → larger best (longest rest t) ≡ m → rest ≡ name ++ more → length name ≡ 3
+    → n ≡ fitting name t → b ≡ ord_max nat_cmp best n → larger b (longest more t) ≡ m
+longest-on name rest more t best n b m inv r h e d =
+    ap (λ (x : ℕ). larger x (longest more t)) (d ∙ larger-max best n ∙ ap (larger best) e)
+    ∙ larger_assoc best (fitting name t) (longest more t)
+    ∙ ap (larger best) (sym (longest_three name more t h) ∙ ap (λ (l : List ℕ). longest l t) (sym r))
+    ∙ inv
 
 -- ## Numbers
 
@@ -254,9 +241,6 @@ module _ (s : List ℕ) (at : ℕ) where
       let e : at + 1 + 1 ≡ at + 2 = omega arith in
       ap (slice s at) (sym e) ∙ slice_snoc s at (at + 1) (omega arith) (omega arith)
       ∙ ap (λ (l : List ℕ). l ++ (get_or s (at + 1) 0 ∷ [])) (slice_snoc s at at (omega arith) (omega arith) ∙ ap (λ (l : List ℕ). l ++ (get_or s at 0 ∷ [])) (slice-none s at))
-
-  pub two-number : at + 2 ≤ length s → (a b : ℕ) → a ≡ get_or s at 0 - 48 → b ≡ get_or s (at + 1) 0 - 48 → a * 10 + b ≡ number (slice s at (at + 2))
-  two-number h a b p q = sym (ap number (two-slice h) ∙ omega arith)
 
 module _ (s : List ℕ) (at : ℕ) where
   pub four-number : at + 4 ≤ length s → (a b : ℕ) → a ≡ number (slice s at (at + 2)) → b ≡ number (slice s (at + 2) (at + 2 + 2))
@@ -285,11 +269,19 @@ module _ (s : List ℕ) (at : ℕ) where
 
 -- ## A month and what follows it
 
+pub numbered-none : (n : ℕ) → None ≡ numbered n → n ≡ 0
+numbered-none zero e = refl
+numbered-none (suc n) e = absurd (let z : ◌≡◌ {A = ℕ} 0 1 = cc in omega arith)
+
+pub numbered-some : (n k : ℕ) → Some k ≡ numbered n → (k ≡ n) × (k ≡ 0 → ⊥)
+numbered-some zero k e = absurd (let z : ◌≡◌ {A = ℕ} 0 1 = cc in omega arith)
+numbered-some (suc n) k e = let d : k ≡ suc n = cc in (d, λ z. omega arith)
+
 module _ (w s : List ℕ) (at m n : ℕ) (month : m ≡ first_name 1 month_names (drop at s)) where
-  pub no_month : m ≡ 0 → n ≡ longest month_names (drop at s) → Stops (at + n) ≡ month_then w s at
+  pub no_month : m ≡ 0 → n ≡ longest month_names (drop at s) → Err (at + n) ≡ month_then w s at
   unfolding month_then
   no_month z e =
-      ap (λ (k : ℕ). Stops (at + k)) e
+      ap (λ (k : ℕ). Err (at + k)) e
       ∙ ap (λ (k : ℕ). tail_of s at (length w) k (fitting w (drop (at + 3) s))) (sym z ∙ month)
 
   module _ (h : m ≡ 0 → ⊥) (fit : n ≡ fitting w (drop (at + 3) s)) where
@@ -297,18 +289,18 @@ module _ (w s : List ℕ) (at m n : ℕ) (month : m ≡ first_name 1 month_names
     unfolding month_then
     found-month = ap₂ (tail_of s at (length w)) month fit
 
-    pub shape-stops : n < length w → Stops (at + 3 + n) ≡ month_then w s at
+    pub shape-stops : n < length w → Err (at + 3 + n) ≡ month_then w s at
     shape-stops l =
-        let e : tail_of s at (length w) m n ≡ Stops (at + 3 + n) = rw (ne_eqb m 0 h, lt-ltb n (length w) l) in
+        let e : tail_of s at (length w) m n ≡ Err (at + 3 + n) = rw (ne_eqb m 0 h, lt-ltb n (length w) l) in
         sym e ∙ found-month
 
     module _ (l : length w ≤ n) where
-      pub text-goes-on : at + 3 + n < length s → Stops (at + 3 + n) ≡ month_then w s at
+      pub text-goes-on : at + 3 + n < length s → Err (at + 3 + n) ≡ month_then w s at
       text-goes-on f =
-          let e : tail_of s at (length w) m n ≡ Stops (at + 3 + n) = rw (ne_eqb m 0 h, le-ltb n (length w) l, lt-ltb (at + 3 + n) (length s) f) in
+          let e : tail_of s at (length w) m n ≡ Err (at + 3 + n) = rw (ne_eqb m 0 h, le-ltb n (length w) l, lt-ltb (at + 3 + n) (length s) f) in
           sym e ∙ found-month
 
-      pub month-is : length s ≤ at + 3 + n → Month m ≡ month_then w s at
+      pub month-is : length s ≤ at + 3 + n → Ok m ≡ month_then w s at
       month-is f =
-          let e : tail_of s at (length w) m n ≡ Month m = rw (ne_eqb m 0 h, le-ltb n (length w) l, le-ltb (at + 3 + n) (length s) f) in
+          let e : tail_of s at (length w) m n ≡ Ok m = rw (ne_eqb m 0 h, le-ltb n (length w) l, le-ltb (at + 3 + n) (length s) f) in
           sym e ∙ found-month

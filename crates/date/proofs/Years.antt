@@ -38,9 +38,6 @@ module _ (y : ℕ) (s : List ℕ) where
   pub reading-within : present_year? y ≡ true → header (rules y) s ≡ reading y s
   reading-within e = sym (ap (λ (t : Bool). cond t (header (rules y) s) (refused OUT_OF_RANGE 0)) e)
 
-  pub reading-outside : present_year? y ≡ false → refused OUT_OF_RANGE 0 ≡ reading y s
-  reading-outside e = sym (ap (λ (t : Bool). cond t (header (rules y) s) (refused OUT_OF_RANGE 0)) e)
-
 -- in a present year within its range
 pub reading_in : (y : ℕ) → PresentYear y → (s : List ℕ) → reading y s ≡ header (rules y) s
 reading_in y p s = sym (reading-within y s (present_is y p))

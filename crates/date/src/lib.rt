@@ -5,45 +5,47 @@ ghost use Rattle.std.specs.Prelude.{◌≡◌, ◌+◌, ◌-◌, ◌≤◌, ◌<
 ghost use Rattle.grammar.specs.helpers.Judge.{header};
 ghost use Rattle.grammar.specs.helpers.Scans.{slice};
 ghost use Rattle.octets.specs.Numbers.{number};
-ghost use Rattle.date.specs.Years.{PresentYear, present_year?, full_year};
+ghost use Rattle.date.specs.Years.{PresentYear, full_year};
 ghost use Rattle.date.specs.Grammar.{rfc1123, asctime, rules};
-ghost use Rattle.date.specs.Reading.{reading, verdict};
+ghost use Rattle.octets.specs.Reading.{verdict};
+ghost use Rattle.date.specs.Reading.{reading};
 ghost use Rattle.date.specs.Names.{first_name};
-ghost use Rattle.date.specs.helpers.Scan.{Goes, AfterDay, AtRfc850, rfc850_head, month_then, judged, year_from, Ending};
+ghost use Rattle.date.specs.helpers.Scan.{Goes, AfterDay, AtRfc850, rfc850_head, month_then, numbered, judged, year_from, YearInside, Ending};
 ghost use Rattle.octets.specs.helpers.Shapes.{stands_for, fitting};
-ghost use Rattle.date.specs.helpers.Shapes.{standing, longest};
+ghost use Rattle.date.specs.helpers.Shapes.{longest};
 
-use calendar::{Fields, Located};
-use octets::{MALFORMED, NO_SUCH_DATE, OUT_OF_RANGE, Refusal, VALUE_TOO_LONG, WRONG_DAY_NAME};
+use calendar::Fields;
+use octets::Refusal;
 
 // A date and a time of day, and the seconds since 1970-01-01 00:00:00.
-#[derive(Clone, Copy)]
+#[derive(Clone, Copy, Debug, PartialEq, Eq)]
 pub struct Date {
     pub fields: Fields,
     pub seconds: i64,
 }
 
+// Where the digits of a year begin: two, which mean a year by the present one, or four.
 #[derive(Clone, Copy)]
-pub enum Reading {
-    Read(Date),
-    Refused(Refusal),
+enum YearPlace {
+    Two(usize),
+    Four(usize),
 }
 
-// A month and what follows it to the end, or the place where that stops.
-#[derive(Clone, Copy)]
-enum Tail {
-    Month(u32),
-    Stops(usize),
-}
-
-// Where the parts of a form stand: the month, the year and whether it has two digits, the day, the time.
+// Where the parts of a form stand: the month, the year, the day, the time.
 #[derive(Clone, Copy)]
 struct Places {
     month: usize,
-    year: usize,
-    short: bool,
+    year: YearPlace,
     day: usize,
     time: usize,
+}
+
+// A value that begins with the name of a day, and the present year under which it is read.
+#[derive(Clone, Copy)]
+struct Named<'a> {
+    text: &'a [u8],
+    day: usize,
+    present_year: u32,
 }
 
 pub const DAYS: [u8; 21] = *b"MonTueWedThuFriSatSun";
@@ -56,221 +58,181 @@ pub const FIRST_PRESENT_YEAR: u32 = 1632;
 pub const LAST_PRESENT_YEAR: u32 = 9949;
 
 // Reads a date of any of the three forms. The present year says which century two digits of a year are in.
-pub fn read(s: &[u8], present_year: u32) -> Reading
+pub fn read(s: &[u8], present_year: u32) -> Result<Date, Refusal>
     ensures { verdict result ≡ reading present_year s.now }
 {
-    if !is_present_year(present_year) {
-        return Reading::Refused(Refusal {
-            number: OUT_OF_RANGE,
-            place: 0,
-        });
+    if !(FIRST_PRESENT_YEAR..=LAST_PRESENT_YEAR).contains(&present_year) {
+        return Err(Refusal::OutOfRange);
     }
-    if s.len() > octets::VALUE_LIMIT {
-        return Reading::Refused(Refusal {
-            number: VALUE_TOO_LONG,
-            place: octets::VALUE_LIMIT,
-        });
-    }
-    let number = first_name(&DAYS, s, 0);
-    if number == 0 {
-        return Reading::Refused(Refusal {
-            number: MALFORMED,
-            place: longest_at(&DAYS, s, 0),
-        });
-    }
-    read_form(s, number - 1, present_year)
+    octets::check_length(s)?;
+    let Some(number) = first_name(&DAYS, s, 0) else {
+        return Err(Refusal::Malformed(longest_at(&DAYS, s, 0)));
+    };
+    let named = Named {
+        text: s,
+        day: number - 1,
+        present_year,
+    };
+    named.read_form()
 }
 
-fn is_present_year(year: u32) -> bool
-    ensures { result ≡ present_year? year }
-{
-    if year < FIRST_PRESENT_YEAR {
-        return false;
+impl<'a> Named<'a> {
+    // Behind the short name of a day.
+    fn read_form(self) -> Result<Date, Refusal>
+        requires { AfterDay self.present_year self.text.now self.day }
+        ensures { verdict result ≡ header (rules self.entry.present_year) self.entry.text.now }
+    {
+        match self.text.get(3) {
+            Some(b',') => self.read_rfc1123(),
+            Some(b' ') => self.read_asctime(),
+            _ => self.read_rfc850(),
+        }
     }
-    year <= LAST_PRESENT_YEAR
+
+    // `, 06 Nov 1994 08:49:37 GMT`
+    fn read_rfc1123(self) -> Result<Date, Refusal>
+        requires { Goes self.present_year rfc1123 self.text.now self.day }
+        ensures { verdict result ≡ header (rules self.entry.present_year) self.entry.text.now }
+    {
+        let fits = fitting_at(b", 00 ", self.text, 3);
+        if fits < 5 {
+            return Err(Refusal::Malformed(3 + fits));
+        }
+        let places = Places {
+            month: 8,
+            year: YearPlace::Four(12),
+            day: 5,
+            time: 17,
+        };
+        self.read_tail(b" 0000 00:00:00 GMT", places)
+    }
+
+    // `day, 06-Nov-94 08:49:37 GMT`
+    fn read_rfc850(self) -> Result<Date, Refusal>
+        requires { AtRfc850 self.present_year self.text.now self.day }
+        ensures { verdict result ≡ header (rules self.entry.present_year) self.entry.text.now }
+    {
+        let head = rfc850_head(self.day);
+        let fits = fitting_at(head, self.text, 3);
+        let at = 3 + fits;
+        if fits < head.len() {
+            return Err(Refusal::Malformed(at));
+        }
+        let places = Places {
+            month: at,
+            year: YearPlace::Two(at + 4),
+            day: at - 3,
+            time: at + 7,
+        };
+        self.read_tail(b"-00 00:00:00 GMT", places)
+    }
+
+    // ` Nov  6 08:49:37 1994`
+    fn read_asctime(self) -> Result<Date, Refusal>
+        requires { Goes self.present_year asctime self.text.now self.day }
+        ensures { verdict result ≡ header (rules self.entry.present_year) self.entry.text.now }
+    {
+        let fits = fitting_at(b" ", self.text, 3);
+        if fits < 1 {
+            return Err(Refusal::Malformed(3));
+        }
+        let places = Places {
+            month: 4,
+            year: YearPlace::Four(20),
+            day: 8,
+            time: 11,
+        };
+        match self.text.get(8) {
+            Some(b' ') => self.read_tail(b"  0 00:00:00 0000", places),
+            _ => self.read_tail(b" 00 00:00:00 0000", places),
+        }
+    }
+
+    // The month, what follows it, and the end. A blank before the day counts as 0.
+    fn read_tail(self, tail: &[u8], places: Places) -> Result<Date, Refusal>
+        requires { Ending self.present_year self.text.now self.day tail.now places }
+        ensures { verdict result ≡ header (rules self.entry.present_year) self.entry.text.now }
+    {
+        let s = self.text;
+        let month = month_then(tail, s, places.month).map_err(Refusal::Malformed)?;
+        let fields = Fields {
+            year: year_at(s, places.year, self.present_year),
+            month,
+            day: two_digits(s, places.day),
+            hour: two_digits(s, places.time),
+            minute: two_digits(s, places.time + 3),
+            second: two_digits(s, places.time + 6),
+        };
+        judge(self.day, fields)
+    }
 }
 
-// Behind the short name of a day.
-fn read_form(s: &[u8], day: usize, present_year: u32) -> Reading
-    requires { AfterDay present_year s.now day }
-    ensures { verdict result ≡ header (rules present_year) s.now }
+// The form of RFC 850 between the short name of a day and the month.
+fn rfc850_head(day: usize) -> &'static [u8]
+    ensures { result.now ≡ rfc850_head day }
 {
-    if byte_is(s, 3, b',') {
-        return read_rfc1123(s, day, present_year);
-    }
-    if byte_is(s, 3, b' ') {
-        return read_asctime(s, day, present_year);
-    }
     match day {
-        1 => read_rfc850(s, day, b"sday, 00-", present_year),
-        2 => read_rfc850(s, day, b"nesday, 00-", present_year),
-        3 => read_rfc850(s, day, b"rsday, 00-", present_year),
-        5 => read_rfc850(s, day, b"urday, 00-", present_year),
-        _ => read_rfc850(s, day, b"day, 00-", present_year),
-    }
-}
-
-// `, 06 Nov 1994 08:49:37 GMT`
-fn read_rfc1123(s: &[u8], day: usize, present_year: u32) -> Reading
-    requires { Goes present_year rfc1123 s.now day }
-    ensures { verdict result ≡ header (rules present_year) s.now }
-{
-    let fits = fitting_at(b", 00 ", s, 3);
-    if fits < 5 {
-        return Reading::Refused(Refusal {
-            number: MALFORMED,
-            place: 3 + fits,
-        });
-    }
-    let places = Places {
-        month: 8,
-        year: 12,
-        short: false,
-        day: 5,
-        time: 17,
-    };
-    read_tail(s, day, b" 0000 00:00:00 GMT", places, present_year)
-}
-
-// `day, 06-Nov-94 08:49:37 GMT`: the head is all before the month.
-fn read_rfc850(s: &[u8], day: usize, head: &[u8], present_year: u32) -> Reading
-    requires at_rfc850 { AtRfc850 present_year s.now day }
-    requires head_value { head.now ≡ rfc850_head day }
-    ensures { verdict result ≡ header (rules present_year) s.now }
-{
-    let fits = fitting_at(head, s, 3);
-    if fits < head.len() {
-        return Reading::Refused(Refusal {
-            number: MALFORMED,
-            place: 3 + fits,
-        });
-    }
-    let at = 3 + fits;
-    let places = Places {
-        month: at,
-        year: at + 4,
-        short: true,
-        day: at - 3,
-        time: at + 7,
-    };
-    read_tail(s, day, b"-00 00:00:00 GMT", places, present_year)
-}
-
-// ` Nov  6 08:49:37 1994`
-fn read_asctime(s: &[u8], day: usize, present_year: u32) -> Reading
-    requires { Goes present_year asctime s.now day }
-    ensures { verdict result ≡ header (rules present_year) s.now }
-{
-    let fits = fitting_at(b" ", s, 3);
-    if fits < 1 {
-        return Reading::Refused(Refusal {
-            number: MALFORMED,
-            place: 3,
-        });
-    }
-    let places = Places {
-        month: 4,
-        year: 20,
-        short: false,
-        day: 8,
-        time: 11,
-    };
-    if byte_is(s, 8, b' ') {
-        return read_tail(s, day, b"  0 00:00:00 0000", places, present_year);
-    }
-    read_tail(s, day, b" 00 00:00:00 0000", places, present_year)
-}
-
-// The month, what follows it, and the end. A blank before the day counts as 0.
-fn read_tail(s: &[u8], day: usize, tail: &[u8], places: Places, present_year: u32) -> Reading
-    requires { Ending present_year s.now day tail.now places }
-    ensures { verdict result ≡ header (rules present_year) s.now }
-{
-    match month_then(tail, s, places.month) {
-        Tail::Stops(place) => Reading::Refused(Refusal {
-            number: MALFORMED,
-            place,
-        }),
-        Tail::Month(month) => judge(
-            day,
-            Fields {
-                year: year_at(s, places.year, places.short, present_year),
-                month,
-                day: two_digits(s, places.day),
-                hour: two_digits(s, places.time),
-                minute: two_digits(s, places.time + 3),
-                second: two_digits(s, places.time + 6),
-            },
-        ),
+        1 => b"sday, 00-",
+        2 => b"nesday, 00-",
+        3 => b"rsday, 00-",
+        5 => b"urday, 00-",
+        _ => b"day, 00-",
     }
 }
 
 // A well-formed date: no such date or time, a day name that disagrees with it, or the date.
-fn judge(named: usize, fields: Fields) -> Reading
+fn judge(named: usize, fields: Fields) -> Result<Date, Refusal>
     ensures { verdict result ≡ judged named fields }
 {
-    match calendar::locate(fields) {
-        Located::Nowhere => Reading::Refused(Refusal {
-            number: NO_SUCH_DATE,
-            place: 0,
-        }),
-        Located::At { seconds, weekday } => {
-            if weekday as usize != named {
-                return Reading::Refused(Refusal {
-                    number: WRONG_DAY_NAME,
-                    place: 0,
-                });
-            }
-            Reading::Read(Date { fields, seconds })
-        }
+    let Some(instant) = calendar::locate(fields) else {
+        return Err(Refusal::NoSuchDate);
+    };
+    if instant.weekday as usize != named {
+        return Err(Refusal::WrongDayName);
     }
+    Ok(Date {
+        fields,
+        seconds: instant.seconds,
+    })
 }
 
-// A month at the place `at`, a text of that shape behind it, and the end.
-fn month_then(shape: &[u8], s: &[u8], at: usize) -> Tail
+// The number of the month at the place `at`, with a text of that shape behind it and the end, or the place where that stops.
+fn month_then(shape: &[u8], s: &[u8], at: usize) -> Result<u32, usize>
     requires { at + length shape.now < 8192 }
     ensures { result ≡ month_then shape.now s.now at }
 {
-    let month = first_name(&MONTHS, s, at);
-    if month == 0 {
-        return Tail::Stops(at + longest_at(&MONTHS, s, at));
-    }
+    let Some(month) = first_name(&MONTHS, s, at) else {
+        return Err(at + longest_at(&MONTHS, s, at));
+    };
     let fits = fitting_at(shape, s, at + 3);
     let end = at + 3 + fits;
-    if fits < shape.len() {
-        return Tail::Stops(end);
+    if fits < shape.len() || end < s.len() {
+        return Err(end);
     }
-    if end < s.len() {
-        return Tail::Stops(end);
-    }
-    Tail::Month(month as u32)
+    Ok(month as u32)
 }
 
-// The number of the first name in a table that agrees with the three bytes at `at`, counted from 1; 0 where none does.
-fn first_name(names: &[u8], s: &[u8], at: usize) -> usize
-    ensures { result ≡ first_name 1 names.now (drop at s.now) }
+// The number of the first name in a table that agrees with the three bytes at `at`, counted from 1.
+// Document 01 asks for this form: a labelled search whose outer loop yields the number by `break`.
+fn first_name(names: &[u8], s: &[u8], at: usize) -> Option<usize>
+    ensures { result ≡ numbered (first_name 1 names.now (drop at s.now)) }
 {
-    if at > s.len() {
-        return 0;
-    }
-    if s.len() - at < 3 {
-        return 0;
+    if at > s.len() || s.len() - at < 3 {
+        return None;
     }
     let count = names.len() / 3;
     let mut k = 0;
     let number = 'names: loop {
         if k >= count {
-            break 'names 0;
+            break 'names None;
         }
-        let mut j = 0;
-        while j < 3 {
+        for j in 0..3 {
             if s[at + j] != names[3 * k + j] {
                 k += 1;
                 continue 'names;
             }
-            j += 1;
         }
-        break 'names k + 1;
+        break 'names Some(k + 1);
     };
     number
 }
@@ -280,14 +242,8 @@ fn longest_at(names: &[u8], s: &[u8], at: usize) -> usize
     ensures { result ≡ longest names.now (drop at s.now) }
 {
     let mut best = 0;
-    let mut k = 0;
-    while 3 <= names.len() - k {
-        let end = k + 3;
-        let fits = fitting_at(&names[k..end], s, at);
-        if best < fits {
-            best = fits;
-        }
-        k = end;
+    for name in names.chunks_exact(3) {
+        best = best.max(fitting_at(name, s, at));
     }
     best
 }
@@ -296,19 +252,14 @@ fn longest_at(names: &[u8], s: &[u8], at: usize) -> usize
 fn fitting_at(shape: &[u8], s: &[u8], at: usize) -> usize
     ensures { result ≡ fitting shape.now (drop at s.now) }
 {
-    let mut i = 0;
-    let mut j = at;
-    while i < shape.len() {
-        if s.len() <= j {
+    let text = s.get(at..).unwrap_or(&[]);
+    let both = shape.len().min(text.len());
+    for i in 0..both {
+        if !stands_for(shape[i], text[i]) {
             return i;
         }
-        if !stands_for(shape[i], s[j]) {
-            return i;
-        }
-        i += 1;
-        j += 1;
     }
-    i
+    both
 }
 
 // A 0 of a shape stands for any digit, every other byte for itself.
@@ -320,12 +271,6 @@ fn stands_for(a: u8, b: u8) -> bool
     } else {
         b == a
     }
-}
-
-fn byte_is(s: &[u8], at: usize, b: u8) -> bool
-    ensures { result ≡ standing s.now at b }
-{
-    if at < s.len() { s[at] == b } else { false }
 }
 
 // The number that two bytes make, which are digits or a blank and a digit.
@@ -344,14 +289,13 @@ fn four_digits(s: &[u8], at: usize) -> u32
     two_digits(s, at) * 100 + two_digits(s, at + 2)
 }
 
-fn year_at(s: &[u8], at: usize, short: bool, present_year: u32) -> u32
-    requires { PresentYear present_year × (at + 4 ≤ length s.now) }
-    ensures { result ≡ year_from present_year s.now at short }
+fn year_at(s: &[u8], place: YearPlace, present_year: u32) -> u32
+    requires { PresentYear present_year × YearInside s.now place }
+    ensures { result ≡ year_from present_year s.now place }
 {
-    if short {
-        full_year(present_year, two_digits(s, at))
-    } else {
-        four_digits(s, at)
+    match place {
+        YearPlace::Two(at) => full_year(present_year, two_digits(s, at)),
+        YearPlace::Four(at) => four_digits(s, at),
     }
 }
 
@@ -359,7 +303,7 @@ fn digit_value(b: u8) -> u32
     ensures is { result ≡ b - 48 }
     ensures small { result < 256 }
 {
-    if b < b'0' { 0 } else { (b - b'0') as u32 }
+    b.saturating_sub(b'0') as u32
 }
 
 // "the year from Y-49 to Y+50 with those digits": in the century in which that window begins, or in the next.

@@ -1,5 +1,5 @@
 -- `date::first_name` meets its contract: the first k names do not agree, and of the next one the first j bytes do.
-use Prim.Native.Nat.{◌-◌, ◌/◌, ◌≤◌, ◌<◌}
+use Prim.Native.Nat.{◌-◌, ◌/◌, ◌<◌}
 use mathlib.Core.Path.{◌≡◌}
 use lib.ListN.{length}
 use Rattle.date.proofs.Tables.{Passed, Agrees}
@@ -12,7 +12,4 @@ abbrev pub decreases-names : goal.decreases-names
 decreases-names l = length l.names / 3 - l.k
 
 abbrev pub invariant-loop-j : goal.invariant-loop-j
-invariant-loop-j l = (l.k < length l.names / 3) × (l.j ≤ 3) × Passed l.names l.s l.at l.k × Agrees l.names l.s l.at l.k l.j × (l.k ≡ l.initial.k)
-
-abbrev pub decreases-loop-j : goal.decreases-loop-j
-decreases-loop-j l = 3 - l.j
+invariant-loop-j l = (l.k < length l.names / 3) × Passed l.names l.s l.at l.k × Agrees l.names l.s l.at l.k l.j × (l.k ≡ l.initial.k)

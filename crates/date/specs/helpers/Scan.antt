@@ -1,5 +1,5 @@
 -- For the contracts of the reader's helpers. The present year is y.
-use Rattle.std.specs.Prelude.{ℕ, zero, suc, ◌+◌, ◌≤◌, ◌<◌, ◌≡◌, Bool, cond, List, [], ◌∷◌, ◌++◌, T, ltb, eqb, length, drop}
+use Rattle.std.specs.Prelude.{ℕ, zero, suc, ◌+◌, ◌≤◌, ◌<◌, ◌≡◌, cond, List, [], ◌∷◌, ◌++◌, T, ltb, eqb, length, drop, Option, Some, None, Result, Ok, Err}
 use Rattle.grammar.specs.Grammar.{Part, Grammar, lit, bytes?}
 use Rattle.grammar.specs.Reading.{Verdict, refused}
 use Rattle.grammar.specs.Refusals.{MALFORMED}
@@ -11,8 +11,8 @@ use Rattle.octets.specs.Numbers.{number}
 use Rattle.calendar.specs.declared.Fields.{Fields}
 use Rattle.date.specs.declared.Date.{Date}
 use Rattle.date.specs.declared.Places.{Places}
-use Rattle.date.specs.declared.Tail.{Tail}
-use Rattle.date.specs.declared.Tail.TheVariants.{Month, Stops}
+use Rattle.date.specs.declared.YearPlace.{YearPlace}
+use Rattle.date.specs.declared.YearPlace.TheVariants.{Two, Four}
 use Rattle.date.specs.Years.{PresentYear, full_year}
 use Rattle.date.specs.Grammar.{Name, weekday, rfc850, forms, fault_of, value_of, rules}
 use Rattle.date.specs.Names.{month_names, first_name}
@@ -58,14 +58,19 @@ AfterDay y s k = Goes y (forms (rest_of k) (rest_bytes k)) s k
 abbrev pub AtRfc850 : ℕ → List ℕ → ℕ → Type 0
 AtRfc850 y s k = Goes y (lit (rest_of k) (rest_bytes k) rfc850) s k
 
+-- a number that is 0 where there is none
+abbrev pub numbered : ℕ → Option ℕ
+numbered zero = None
+numbered (suc k) = Some (suc k)
+
 -- where a month has the number m, or is none with m = 0, and n bytes of a shape of the length l stand behind it
-abbrev pub tail_of : (s : List ℕ) (at l m n : ℕ) → Tail
+abbrev pub tail_of : (s : List ℕ) (at l m n : ℕ) → Result ℕ ℕ
 tail_of s at l m n =
-    cond (eqb m 0) (Stops (at + longest month_names (drop at s)))
-    (cond (ltb n l) (Stops (at + 3 + n)) (cond (ltb (at + 3 + n) (length s)) (Stops (at + 3 + n)) (Month m)))
+    cond (eqb m 0) (Err (at + longest month_names (drop at s)))
+    (cond (ltb n l) (Err (at + 3 + n)) (cond (ltb (at + 3 + n) (length s)) (Err (at + 3 + n)) (Ok m)))
 
 -- a month at the place `at`, a text of that shape behind it, and the end
-unfoldable pub month_then : (shape s : List ℕ) (at : ℕ) → Tail
+unfoldable pub month_then : (shape s : List ℕ) (at : ℕ) → Result ℕ ℕ
 month_then w s at = tail_of s at (length w) (first_name 1 month_names (drop at s)) (fitting w (drop (at + 3) s))
 
 -- the answer to a well-formed date
@@ -73,13 +78,18 @@ unfoldable pub judged : (named : ℕ) → Fields → Verdict Date
 judged k f = unless_fault (fault_of k f) (value_of f)
 
 -- a year of two digits or of four
-abbrev pub year_from : (y : ℕ) (s : List ℕ) (at : ℕ) (short : Bool) → ℕ
-year_from y s at short = cond short (full_year y (number (slice s at (at + 2)))) (number (slice s at (at + 4)))
+abbrev pub year_from : (y : ℕ) (s : List ℕ) → YearPlace → ℕ
+year_from y s (Two at) = full_year y (number (slice s at (at + 2)))
+year_from y s (Four at) = number (slice s at (at + 4))
 
--- the fields by their places: two digits each, but for a year that is not short; minute and second stand behind the hour
+abbrev pub YearInside : List ℕ → YearPlace → Type 0
+YearInside s (Two at) = at + 2 ≤ length s
+YearInside s (Four at) = at + 4 ≤ length s
+
+-- the fields by their places: two digits each, but for a year of four; minute and second stand behind the hour
 abbrev pub fields_from : (y : ℕ) (s : List ℕ) (month : ℕ) → Places → Fields
 fields_from y s m p = record {
-  year = year_from y s p.year p.short;
+  year = year_from y s p.year;
   month = m;
   day = number (slice s p.day (p.day + 2));
   hour = number (slice s p.time (p.time + 2));
@@ -89,12 +99,12 @@ fields_from y s m p = record {
 
 -- each of the places has its bytes
 abbrev pub Inside : List ℕ → Places → Type 0
-Inside s p = (p.year + 4 ≤ length s) × (p.day + 2 ≤ length s) × (p.time + 8 ≤ length s)
+Inside s p = YearInside s p.year × (p.day + 2 ≤ length s) × (p.time + 8 ≤ length s)
 
 -- the day k is named, and the answer is what a month and a text of the shape w behind it make
 pub record Ending (y : ℕ) (s : List ℕ) (k : ℕ) (w : List ℕ) (p : Places) : Type 0 where
   pub within : PresentYear y
   pub room : p.month + length w < 8192
-  pub stops : (q : ℕ) → month_then w s p.month ≡ Stops q → header (rules y) s ≡ refused MALFORMED q
-  pub ends : (m : ℕ) → month_then w s p.month ≡ Month m → header (rules y) s ≡ judged k (fields_from y s m p)
-  pub inside : (m : ℕ) → month_then w s p.month ≡ Month m → Inside s p
+  pub stops : (q : ℕ) → month_then w s p.month ≡ Err q → header (rules y) s ≡ refused MALFORMED q
+  pub ends : (m : ℕ) → month_then w s p.month ≡ Ok m → header (rules y) s ≡ judged k (fields_from y s m p)
+  pub inside : (m : ℕ) → month_then w s p.month ≡ Ok m → Inside s p
