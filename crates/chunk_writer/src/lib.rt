@@ -3,12 +3,13 @@
 
 ghost use Rattle.std.specs.Prelude.{◌≡◌, true, ◌+◌, ◌<◌, ◌≤◌, length};
 ghost use Rattle.numerals.specs.Numeral.{numeral};
-ghost use Rattle.octets.specs.Writing.{written};
+ghost use Rattle.octets.specs.Reading.{verdict};
 ghost use Rattle.text.specs.Placing.{placed};
 ghost use Rattle.chunk_writer.specs.Writing.{BODY_LIMIT as bodyLimit, chunk, end, frame, frame_writing, frame_output};
 ghost use Rattle.chunk_writer.specs.helpers.Lines.{LineOf};
 
-use octets::{BODY_TOO_LARGE, OUT_OF_RANGE, OUTPUT_TOO_SHORT, Written};
+use numerals::Base;
+use octets::Refusal;
 
 // The largest body that is framed.
 pub const BODY_LIMIT: usize = 1073741824;
@@ -23,22 +24,22 @@ const END: usize = 5;
 const BLOCK: usize = 16;
 
 // Frames `body` in chunks of `chunk_len` bytes at the front of `out`, and keeps the rest of `out`. A refusal leaves `out` as it was.
-pub fn encode(body: &[u8], chunk_len: usize, out: &mut [u8]) -> Written
-    ensures answers { written result ≡ frame_writing body.now chunk_len (length out.old) }
+pub fn encode(body: &[u8], chunk_len: usize, out: &mut [u8]) -> Result<usize, Refusal>
+    ensures answers { verdict result ≡ frame_writing body.now chunk_len (length out.old) }
     ensures writes { out.new ≡ frame_output body.now chunk_len out.old }
 {
     if chunk_len == 0 {
-        return octets::unwritten(OUT_OF_RANGE);
+        return Err(Refusal::OutOfRange);
     }
     if body.len() > BODY_LIMIT {
-        return octets::unwritten(BODY_TOO_LARGE);
+        return Err(Refusal::BodyTooLarge(0));
     }
     let len = frame_len(body, chunk_len);
     if out.len() < len {
-        return octets::unwritten(OUTPUT_TOO_SHORT);
+        return Err(Refusal::OutputTooShort);
     }
     put_frame(body, chunk_len, out);
-    Written::Length(len)
+    Ok(len)
 }
 
 // How many bytes the frame has.
@@ -48,11 +49,11 @@ fn frame_len(body: &[u8], chunk_len: usize) -> usize
 {
     let full = body.len() / chunk_len;
     let rest = body.len() % chunk_len;
-    let len = body.len() + full * (numerals::hex_width(chunk_len as u64) + CHUNK_ENDS) + END;
+    let len = body.len() + full * (numerals::width(chunk_len as u64, Base::Hex) + CHUNK_ENDS) + END;
     if rest == 0 {
         return len;
     }
-    len + numerals::hex_width(rest as u64) + CHUNK_ENDS
+    len + numerals::width(rest as u64, Base::Hex) + CHUNK_ENDS
 }
 
 fn put_frame(body: &[u8], chunk_len: usize, out: &mut [u8])
@@ -60,11 +61,11 @@ fn put_frame(body: &[u8], chunk_len: usize, out: &mut [u8])
     ensures { out.new ≡ placed out.old 0 (frame body.now chunk_len) }
 {
     let line = size_line(chunk_len);
-    let width = numerals::hex_width(chunk_len as u64) + 2;
+    let width = numerals::width(chunk_len as u64, Base::Hex) + 2;
     let mut taken = 0;
     let mut at = 0;
     while taken < body.len() {
-        let size = octets::least(chunk_len, body.len() - taken);
+        let size = chunk_len.min(body.len() - taken);
         at = put_part(&body[taken..taken + size], chunk_len, line, width, out, at);
         taken += size;
     }
@@ -76,7 +77,7 @@ fn size_line(size: usize) -> [u8; 16]
     ensures { LineOf size result }
 {
     let mut line = [0u8; 16];
-    let end = text::put_hex(size as u64, &mut line, 0);
+    let end = text::put_numeral(size as u64, Base::Hex, &mut line, 0);
     text::put_bytes(b"\r\n", &mut line, end);
     line
 }
@@ -105,13 +106,7 @@ fn put_part(
 fn by_block(size: usize, chunk_len: usize, width: usize) -> bool
     ensures { result ≡ true → (size ≡ chunk_len) × (16 ≤ size) × (width ≤ 16) }
 {
-    if size != chunk_len {
-        return false;
-    }
-    if size < BLOCK {
-        return false;
-    }
-    width <= BLOCK
+    size == chunk_len && size >= BLOCK && width <= BLOCK
 }
 
 // A chunk of a block or more: its line, made once for all of them, is put by one block, since its data covers what stands behind the
@@ -136,7 +131,7 @@ fn put_chunk(part: &[u8], out: &mut [u8], at: usize) -> usize
     ensures ends { result ≡ at + length (chunk part.now) }
     ensures writes { out.new ≡ placed out.old at (chunk part.now) }
 {
-    let size_end = text::put_hex(part.len() as u64, out, at);
+    let size_end = text::put_numeral(part.len() as u64, Base::Hex, out, at);
     let data_at = text::put_bytes(b"\r\n", out, size_end);
     let data_end = text::put_bytes(part, out, data_at);
     text::put_bytes(b"\r\n", out, data_end)

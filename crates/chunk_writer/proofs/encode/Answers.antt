@@ -6,20 +6,20 @@ use Rattle.chunk_writer.proofs.encode.Goals as goal
 pub returns-then-chunk_len-eq0 : goal.returns-then-chunk_len-eq0
 returns-then-chunk_len-eq0 c =
     let s = c.args in
-    let r = refuses-length s.body.now s.chunk_len s.out.now c.unwritten.ensures c.if-chunk_len-eq0.true in
+    let r = refuses-length s.body.now s.chunk_len s.out.now c.if-chunk_len-eq0.true in
     record { answers = r.0; writes = r.1 }
 
 pub returns-then-body-gt-BODY_LIMIT : goal.returns-then-body-gt-BODY_LIMIT
 returns-then-body-gt-BODY_LIMIT c =
     let s = c.args in
-    let r = refuses_large s.body.now s.chunk_len s.out.now c.if-chunk_len-eq0.false c.unwritten-then-body-gt-BODY_LIMIT.ensures
+    let r = refuses_large s.body.now s.chunk_len s.out.now c.if-chunk_len-eq0.false
     c.if-body-gt-BODY_LIMIT.true in
     record { answers = r.0; writes = r.1 }
 
 pub returns-then-out-len : goal.returns-then-out-len
 returns-then-out-len c =
     let s = c.args in
-    let r = refuses-short s.body.now s.chunk_len s.out.now c.if-chunk_len-eq0.false c.if-body-gt-BODY_LIMIT.false c.unwritten-then-out-len.ensures
+    let r = refuses-short s.body.now s.chunk_len s.out.now c.if-chunk_len-eq0.false c.if-body-gt-BODY_LIMIT.false
     (omega (arith, c.frame_len-len.ensures, c.if-out-len.true)) in
     record { answers = r.0; writes = r.1 }
 

@@ -4,7 +4,7 @@ use Rattle.chunk_writer.proofs.put_chunk.Goals as goal
 
 pub returns : goal.returns
 returns c =
-    let h = c.put_hex-size_end.ensures in
+    let h = c.put_numeral-size_end.ensures in
     let d = c.put_bytes-data_at.ensures in
     let b = c.put_bytes-data_end.ensures in
     let e = c.put_bytes.ensures in

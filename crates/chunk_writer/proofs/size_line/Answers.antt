@@ -5,5 +5,5 @@ use Rattle.chunk_writer.proofs.size_line.Goals as goal
 
 pub returns : goal.returns
 returns c =
-    let h = c.put_hex-end.ensures in
+    let h = c.put_numeral-end.ensures in
     line_made _ c.args.size refl (h.ends, h.writes) c.put_bytes.ensures.writes
