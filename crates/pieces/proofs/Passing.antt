@@ -5,8 +5,8 @@ use mathlib.Core.List.{List, [], ◌∷◌, ◌++◌, append-nil}
 use mathlib.Core.Option.{Option, none, some}
 use Prim.Native.Nat.{ℕ, suc, ◌+◌, ◌-◌, ◌≤◌}
 use native.Mathlib.Omega.{arith}
-use lib.ListN.{length, get_or, take, length-take}
-use lib.Seq.{length-take-le, take-take}
+use lib.ListN.{length, get_or, take}
+use lib.Seq.{length-take-le}
 use Rattle.grammar.specs.Refusals.{FRAMED_TOO_LONG}
 use Rattle.text.specs.Placing.{placed}
 use Rattle.framing.specs.Grammar.{limits}
@@ -25,9 +25,8 @@ use Rattle.pieces.specs.declared.Pieces.{Pieces}
 use Rattle.pieces.specs.helpers.Runs.{Sound, Going, Ran, Passed, Idle}
 use Rattle.size_lines.proofs.PlainLines.{take-crlf}
 use Rattle.plain_chunks.proofs.Chunks.{placed-none}
-use Rattle.framing.specs.declared.LinePos.{LinePos}
 use Rattle.framing.proofs.Rooms.{Fits}
-use Rattle.pieces.proofs.Possible.{Counts, Stands, possible-stands, filled-fits}
+use Rattle.pieces.proofs.Possible.{Counts, Stands, possible-stands}
 use Rattle.pieces.proofs.Steps.{not-over-says, led, Turn, goes, stops, turn, gathered-onward, gathered_none}
 use Rattle.pieces.proofs.Steps.{refusal-refuses, passes}
 
@@ -56,12 +55,6 @@ ran_none s bytes = record { count = 0; inside = omega arith; taken = omega arith
 
 -- ## What the numbers of a state say
 module _ (s : Pieces) (d : Sound s) where
-  pub line_before : {p : LinePos} {k t : ℕ} → s.position ≡ Line p k t → t ≤ s.room
-  unfolding filled
-  line_before e =
-      subst (λ (q : State). filled q ≤ s.room) e
-      (filled-fits s.room s.position (possible-stands s.room s.position d.stands))
-
   pub data_left : {m t : ℕ} → s.position ≡ Data m t → (suc m ≤ t) × (t ≤ s.room)
   unfolding Counts Fits
   data_left {m} {t} e =
@@ -117,21 +110,6 @@ module _ (s : Pieces) (bytes : List ℕ) (n : ℕ) {old new : List ℕ} {m t : �
         (subst (λ (z : List ℕ). Framing.Passes s.room (Data m t) (take n bytes ++ (13 ∷ 10 ∷ [])) z (Line First 0 t))
         (append-nil (take n bytes)) (Framing.passes_then data_passes (Framing.passes-crlf t))) in
         passed_by h (runs s g.going e f (omega (arith, length-take-le (n + 2) bytes h)))
-
--- ## Of more bytes than are looked at
-wider : (n : ℕ) (bytes : List ℕ) {k : ℕ} → k ≤ length (take n bytes) → (k ≤ length bytes) × (take k (take n bytes) ≡ take k bytes)
-wider n bytes {k} h = (omega (arith, length-take n bytes), take-take k n bytes (omega (arith, length-take n bytes)))
-
-pub passed_wider : {s r : Pieces} (n : ℕ) (bytes : List ℕ) {old new : List ℕ} → Passed s (take n bytes) old r new → Passed s bytes old r new
-passed_wider {s} {r} n bytes {old} p =
-    let w = wider n bytes p.inside in
-    record {
-      count = p.count;
-      inside = w.0;
-      taken = p.taken;
-      state = p.state ∙ ap (advance s) w.1;
-      wrote = p.wrote ∙ ap (λ (xs : List ℕ). placed old (filled s.position) (gathered s xs)) w.1;
-    }
 
 -- no data, nothing written
 pub ran_passed : {s r : Pieces} {bytes : List ℕ} (old : List ℕ) → Ran s bytes r → Passed s bytes old r old

@@ -57,10 +57,6 @@ module _ {s₀ : Pieces} {i₀ : ℕ} {bytes old : List ℕ} where
           sym (ap (λ (xs : List ℕ). placed new (filled s.position) (gathered s xs)) z ∙ placed-none new (filled s.position)) ∙ r.wrote,
         )
 
-    pub rest-room : s.room ≡ s₀.room
-    rest-room =
-        sym (advance-room s (drop i bytes)) ∙ ap (λ (z : Pieces). z.room) r.goes ∙ advance-room s₀ (drop i₀ bytes)
-
     -- over a run
     pub rest-on : {t : Pieces} {next : List ℕ} (p : Passed s (drop i bytes) new t next) → Rest s₀ i₀ bytes old t next (i + p.count)
     rest-on {t} {next} p =
@@ -166,13 +162,3 @@ module _ {s₀ : Pieces} {i₀ : ℕ} {bytes old : List ℕ} where
         let e : t ≡ s = p.state ∙ ap (λ (n : ℕ). advance s (take n (drop i bytes))) k in
         let z : i + p.count ≡ i = omega arith in
         subst (λ (x : Pieces). Rest s₀ i₀ bytes old x next i) e (subst (Rest s₀ i₀ bytes old t next) z (rest-on p))
-
-    -- a run of some bytes
-    pub run-falls : over? s ≡ false → (t : Pieces) (k : ℕ) → 0 < k → i + k ≤ length bytes → left bytes t (i + k) < left bytes s i
-    run-falls o t k h l =
-        let x : ◌≡◌ {A = ℕ} (cond (over? s) 0 1) 1 = ap (λ (x : Bool). cond {A = ℕ} x 0 1) o in
-        omega (arith, x, small (over? t))
-      where
-        small : (x : Bool) → cond {A = ℕ} x 0 1 ≤ 1
-        small true = omega arith
-        small false = omega arith

@@ -1,8 +1,10 @@
 // Reads chunked bodies in pieces, as they arrive: a state by value goes from call to call, and data is written as it comes.
 #![tactic(auto)]
 
-ghost use Rattle.std.specs.Prelude.{◌≡◌, true, false, ◌+◌, ◌-◌, ◌<◌, ◌≤◌, length, length as length_of};
+ghost use Rattle.std.specs.Prelude.{◌≡◌, true, false, ◌+◌, ◌-◌, ◌<◌, ◌≤◌, length, take, MatchOption};
+ghost use Rattle.octets.specs.Reading.{number_of, place_of};
 ghost use Rattle.text.specs.Placing.{placed};
+ghost use Rattle.framing.specs.declared.LinePos.TheVariants.{First};
 ghost use Rattle.framing.specs.declared.State.TheVariants.{Line, Data};
 ghost use Rattle.chunked.specs.Verdict.{verdict};
 ghost use Rattle.plain_chunks.specs.helpers.Runs.{stands};
@@ -15,16 +17,16 @@ ghost use Rattle.pieces.specs.helpers.Runs.{Sound, Going, Passed, Idle};
 use chunked::Answer;
 use framing::{LinePos, State, Whole};
 use octets::{
-    BODY_TOO_LARGE, FORBIDDEN_FIELD, FRAMED_TOO_LONG, LINE_TOO_LONG, MALFORMED, OUT_OF_RANGE,
-    Refusal, TRAILER_TOO_LONG,
+    BODY_TOO_LARGE, FORBIDDEN_FIELD, FRAMED_TOO_LONG, LINE_TOO_LONG, MALFORMED, Refusal,
+    TRAILER_TOO_LONG,
 };
-use transition::Step;
+use plain_chunks::Run;
 
 // The most bytes of a framed body.
 pub const FRAMED_LIMIT: usize = 1099511627776;
 
 // What the reader keeps between calls. It holds no byte of the body.
-#[derive(Clone, Copy)]
+#[derive(Clone, Copy, Debug, PartialEq, Eq)]
 pub struct Pieces {
     // where the body stands behind the bytes taken
     pub position: State,
@@ -32,7 +34,7 @@ pub struct Pieces {
     pub taken: usize,
     // the length of the output
     pub room: usize,
-    // the number of the refusal that the byte behind them got; 0: none
+    // the number of the refusal that the byte behind them got; 0: none. A number, since C hands it back: any other one makes a call invalid
     pub refused: usize,
 }
 
@@ -50,11 +52,7 @@ impl Pieces {
         ensures { result ≡ begun room }
     {
         Pieces {
-            position: State::Line {
-                position: LinePos::First,
-                length: 0,
-                before: 0,
-            },
+            position: line_start(0),
             taken: 0,
             room,
             refused: 0,
@@ -70,18 +68,14 @@ impl Pieces {
         ensures writes { out.new ≡ output_after self piece.now quota out.old }
     {
         if !self.accepts(quota, out.len()) {
-            let answer = Answer::Refused(Refusal {
-                number: OUT_OF_RANGE,
-                place: 0,
-            });
             return Fed {
                 state: self,
                 taken: 0,
-                answer,
+                answer: Answer::Refused(Refusal::OutOfRange),
             };
         }
-        let end = octets::least(quota, piece.len());
-        let state = self.read(&piece[0..end], out);
+        let offered = &piece[..quota.min(piece.len())];
+        let state = self.read(offered, out);
         Fed {
             state,
             taken: state.taken - self.taken,
@@ -90,54 +84,32 @@ impl Pieces {
     }
 
     // How many bytes of data stand at the front of the output.
+    #[tactic(auto, unfolding(crate::specs::Reading::filled))]
     pub fn written(self) -> usize
         ensures { result ≡ filled self.position }
     {
-        let position = self.position;
-        match position {
-            State::Line {
-                position: _,
-                length: _,
-                before,
-            } => before,
-            State::LineFeed { size: _, before } => before,
-            State::Data { left, total } => {
-                if left < total {
-                    return total - left - 1;
-                }
-                0
-            }
-            State::DataCr { total } => total,
-            State::DataLf { total } => total,
-            State::Trail {
-                position: _,
-                length: _,
-                total,
-            } => total,
-            State::EndLf { total, trailer: _ } => total,
-            State::Done { total, trailer: _ } => total,
+        match self.position {
+            State::Line { before, .. } | State::LineFeed { before, .. } => before,
+            State::Data { left, total } => total.saturating_sub(left).saturating_sub(1),
+            State::DataCr { total }
+            | State::DataLf { total }
+            | State::Trail { total, .. }
+            | State::EndLf { total, .. }
+            | State::Done { total, .. } => total,
             State::Dead => 0,
         }
     }
 
     // Is it a valid call?
+    #[tactic(auto, unfolding(crate::specs::Reading::valid))]
     fn accepts(self, quota: usize, len: usize) -> bool
         ensures { result ≡ valid self quota len }
     {
-        if quota == 0 {
-            return false;
-        }
-        if len != self.room {
-            return false;
-        }
-        if self.taken > FRAMED_LIMIT {
-            return false;
-        }
-        if !listed(self.refused) {
-            return false;
-        }
-        let position = self.position;
-        transition::possible(position, self.room)
+        quota != 0
+            && len == self.room
+            && self.taken <= FRAMED_LIMIT
+            && listed(self.refused)
+            && transition::possible(self.position, self.room)
     }
 
     // The answer so far.
@@ -145,18 +117,14 @@ impl Pieces {
         requires { isListed self.refused ≡ true }
         ensures { verdict result ≡ answer_of self }
     {
-        if self.refused != 0 {
-            return Answer::Refused(Refusal {
-                number: self.refused as u8,
-                place: self.taken,
-            });
+        if let Some(refusal) = refusal_of(self.refused, self.taken) {
+            return Answer::Refused(refusal);
         }
-        let position = self.position;
-        match position {
+        match self.position {
             State::Done { total, trailer } => Answer::Whole(Whole {
                 taken: self.taken,
                 length: total,
-                trailer_start: back(back(self.taken, 2), trailer),
+                trailer_start: self.taken.saturating_sub(2).saturating_sub(trailer),
                 trailer_length: trailer,
             }),
             _ => Answer::More,
@@ -167,17 +135,7 @@ impl Pieces {
     fn is_over(self) -> bool
         ensures { result ≡ over? self }
     {
-        if self.refused != 0 {
-            return true;
-        }
-        let position = self.position;
-        match position {
-            State::Done {
-                total: _,
-                trailer: _,
-            } => true,
-            _ => false,
-        }
+        self.refused != 0 || matches!(self.position, State::Done { .. })
     }
 
     // The state behind as many of the bytes as it takes. What is passed over at once is not looked at byte by byte; the data of a chunk
@@ -192,20 +150,14 @@ impl Pieces {
             return self;
         }
         let mut state = self.pass_begun(bytes, out);
-        let mut at = state.taken - self.taken;
-        while at < bytes.len() {
-            if state.is_over() {
-                return state;
-            }
-            let taken = state.taken;
+        while state.taken - self.taken < bytes.len() && !state.is_over() {
+            let at = state.taken - self.taken;
             let passed = state.pass(&bytes[at..], out);
-            if passed.taken > taken {
-                at += passed.taken - taken;
-                state = passed;
+            state = if passed.taken > state.taken {
+                passed
             } else {
-                state = state.next(bytes[at]);
-                at += state.taken - taken;
-            }
+                state.next(bytes[at])
+            };
         }
         state
     }
@@ -213,12 +165,11 @@ impl Pieces {
     // Passes over the data of a chunk that has begun, if one has.
     fn pass_begun(self, bytes: &[u8], out: &mut [u8]) -> Pieces
         requires { Going self out.old }
-        ensures { Passed self bytes.now out.old result out.new }
+        ensures goes { Passed self bytes.now out.old result out.new }
+        ensures idle { 0 < length bytes.now → result.taken ≤ self.taken → Idle self }
     {
-        let end = octets::least(bytes.len(), FRAMED_LIMIT - self.taken);
-        let position = self.position;
-        match position {
-            State::Data { left, total } => self.pass_data(left, total, &bytes[0..end], out),
+        match self.position {
+            State::Data { left, total } => self.pass_data(left, total, self.within(bytes), out),
             _ => self,
         }
     }
@@ -229,17 +180,22 @@ impl Pieces {
         ensures goes { Passed self bytes.now out.old result out.new }
         ensures idle { 0 < length bytes.now → result.taken ≤ self.taken → Idle self }
     {
-        let end = octets::least(bytes.len(), FRAMED_LIMIT - self.taken);
-        let position = self.position;
-        match position {
-            State::Data { left, total } => self.pass_data(left, total, &bytes[0..end], out),
+        match self.position {
             State::Line {
-                position,
-                length,
+                position: LinePos::First,
+                length: 0,
                 before,
-            } => self.pass_lines(position, length, before, &bytes[0..end], out),
-            _ => self,
+            } => self.pass_lines(before, self.within(bytes), out),
+            _ => self.pass_begun(bytes, out),
         }
+    }
+
+    // Those of the bytes that the limit on a framed body lets in.
+    fn within(self, bytes: &[u8]) -> &[u8]
+        requires { self.taken ≤ MOST }
+        ensures { result.now ≡ take (MOST - self.taken) bytes.now }
+    {
+        &bytes[..bytes.len().min(FRAMED_LIMIT - self.taken)]
     }
 
     // As much data as there is, and the CR LF behind it.
@@ -248,8 +204,8 @@ impl Pieces {
         ensures goes { Passed self bytes.now out.old result out.new }
         ensures some { result.taken ≤ self.taken → length bytes.now ≡ 0 }
     {
-        let run = octets::least(bytes.len(), left + 1);
-        text::put_bytes(&bytes[0..run], out, total - left - 1);
+        let run = bytes.len().min(left + 1);
+        text::put_bytes(&bytes[..run], out, total - left - 1);
         if run <= left {
             return self.moved(
                 State::Data {
@@ -259,77 +215,38 @@ impl Pieces {
                 run,
             );
         }
-        if bytes.len() - run >= 2 {
-            if bytes[run] == b'\r' {
-                if bytes[run + 1] == b'\n' {
-                    return self.moved(
-                        State::Line {
-                            position: LinePos::First,
-                            length: 0,
-                            before: total,
-                        },
-                        run + 2,
-                    );
-                }
-            }
+        if bytes.len() - run >= 2 && bytes[run] == b'\r' && bytes[run + 1] == b'\n' {
+            return self.moved(line_start(total), run + 2);
         }
         self.moved(State::DataCr { total }, run)
     }
 
     // From the start of a line: chunks whose lines are digits alone. The shortest line with its CR LF has three bytes.
-    fn pass_lines(
-        self,
-        position: LinePos,
-        length: usize,
-        before: usize,
-        bytes: &[u8],
-        out: &mut [u8],
-    ) -> Pieces
-        requires { Going self out.old × (self.position ≡ Line position length before)
-            × (self.taken + length_of bytes.now ≤ MOST) }
+    fn pass_lines(self, before: usize, bytes: &[u8], out: &mut [u8]) -> Pieces
+        requires { Going self out.old × (self.position ≡ Line First 0 before) × (self.taken + length bytes.now ≤ MOST) }
         ensures { Passed self bytes.now out.old result out.new }
     {
-        if length != 0 {
-            return self;
-        }
         if bytes.len() < 3 {
             return self;
         }
-        match position {
-            LinePos::First => {
-                let run = plain_chunks::pass(before, bytes, out);
-                self.behind(run.taken, run.total, run.size)
-            }
-            _ => self,
-        }
+        self.behind(plain_chunks::pass(before, bytes, out))
     }
 
-    // Behind so many bytes more: before the data of a chunk of that size, or at the start of a line where it is 0.
-    fn behind(self, count: usize, total: usize, size: usize) -> Pieces
-        requires { self.taken + count ≤ MOST }
-        ensures { result ≡ record {
-          position = stands (record { taken = count; total = total; size = size });
-          taken = self.taken + count;
-          room = self.room;
-          refused = 0;
-        } }
+    // Behind a run: before the data of a chunk of its size, or at the start of a line where that is 0.
+    fn behind(self, run: Run) -> Pieces
+        requires { self.taken + run.taken ≤ MOST }
+        ensures { result ≡ record { position = stands run; taken = self.taken + run.taken; room = self.room; refused = 0 } }
     {
+        let Run { taken, total, size } = run;
         if size == 0 {
-            return self.moved(
-                State::Line {
-                    position: LinePos::First,
-                    length: 0,
-                    before: total,
-                },
-                count,
-            );
+            return self.moved(line_start(total), taken);
         }
         self.moved(
             State::Data {
                 left: size - 1,
                 total,
             },
-            count,
+            taken,
         )
     }
 
@@ -338,16 +255,13 @@ impl Pieces {
         requires { Sound self }
         ensures { result ≡ stepped self byte }
     {
-        let position = self.position;
-        match transition::next(position, byte, self.room) {
-            Step::To(position) => {
-                if self.taken == FRAMED_LIMIT {
-                    return self.refuse(FRAMED_TOO_LONG);
-                }
-                self.moved(position, 1)
+        match transition::next(self.position, byte, self.room) {
+            Some(Ok(_)) if self.taken == FRAMED_LIMIT => {
+                self.refuse(Refusal::FramedTooLong(self.taken))
             }
-            Step::Refused(number) => self.refuse(number),
-            Step::Impossible => self,
+            Some(Ok(position)) => self.moved(position, 1),
+            Some(Err(refusal)) => self.refuse(refusal),
+            None => self,
         }
     }
 
@@ -359,21 +273,29 @@ impl Pieces {
         Pieces {
             position,
             taken: self.taken + count,
-            room: self.room,
             refused: 0,
+            ..self
         }
     }
 
-    fn refuse(self, number: u8) -> Pieces
-        ensures { result ≡ record { position = self.position; taken = self.taken; room = self.room; refused = number } }
+    fn refuse(self, refusal: Refusal) -> Pieces
+        ensures { result ≡ record { position = self.position; taken = self.taken; room = self.room; refused = number_of refusal } }
     {
-        let position = self.position;
         Pieces {
-            position,
-            taken: self.taken,
-            room: self.room,
-            refused: number as usize,
+            refused: refusal.number() as usize,
+            ..self
         }
+    }
+}
+
+// At the start of a line, behind so much data.
+fn line_start(before: usize) -> State
+    ensures { result ≡ Line First 0 before }
+{
+    State::Line {
+        position: LinePos::First,
+        length: 0,
+        before,
     }
 }
 
@@ -381,33 +303,21 @@ impl Pieces {
 fn listed(number: usize) -> bool
     ensures { result ≡ isListed number }
 {
-    if number == 0 {
-        return true;
-    }
-    if number == MALFORMED as usize {
-        return true;
-    }
-    if number == LINE_TOO_LONG as usize {
-        return true;
-    }
-    if number == TRAILER_TOO_LONG as usize {
-        return true;
-    }
-    if number == BODY_TOO_LARGE as usize {
-        return true;
-    }
-    if number == FORBIDDEN_FIELD as usize {
-        return true;
-    }
-    number == FRAMED_TOO_LONG as usize
+    number == 0 || refusal_of(number, 0).is_some()
 }
 
-// So many bytes before a place; 0 where there are fewer.
-fn back(place: usize, count: usize) -> usize
-    ensures { result ≡ place - count }
+// The refusal of that number at that place, if a body can get it.
+fn refusal_of(number: usize, place: usize) -> Option<Refusal>
+    ensures { MatchOption result (isListed number ≡ true → number ≡ 0)
+        (λ r. (isListed number ≡ true) × (0 < number) × (number_of r ≡ number) × (place_of r ≡ place)) }
 {
-    if place < count {
-        return 0;
+    match u8::try_from(number) {
+        Ok(MALFORMED) => Some(Refusal::Malformed(place)),
+        Ok(LINE_TOO_LONG) => Some(Refusal::LineTooLong(place)),
+        Ok(TRAILER_TOO_LONG) => Some(Refusal::TrailerTooLong(place)),
+        Ok(BODY_TOO_LARGE) => Some(Refusal::BodyTooLarge(place)),
+        Ok(FORBIDDEN_FIELD) => Some(Refusal::ForbiddenField(place)),
+        Ok(FRAMED_TOO_LONG) => Some(Refusal::FramedTooLong(place)),
+        _ => None,
     }
-    place - count
 }

@@ -2,20 +2,15 @@
 use native.Mathlib.Omega.{arith}
 use mathlib.Core.Path.{sym, ◌∙◌, ap}
 use mathlib.Core.List.{List}
-use Prim.Native.Nat.{ℕ, ◌-◌}
+use Prim.Native.Nat.{ℕ}
 use lib.ListN.{length, take}
 use Rattle.text.specs.Placing.{placed}
 use Rattle.pieces.specs.Reading.{listed, advance, gathered, filled}
 use Rattle.pieces.specs.declared.Pieces.{Pieces}
 use Rattle.pieces.proofs.Steps.{advance-taken, advance-sound}
-use Rattle.pieces.proofs.Sequences.{valid_allows, invalid}
+use Rattle.pieces.proofs.Sequences.{valid_allows}
 use Rattle.pieces.proofs.Valid.{offered-part, feeds}
 use Rattle.pieces.proofs.Pieces.feed.Goals as goal
-
-pub returns-then-not-accepts : goal.returns-then-not-accepts
-returns-then-not-accepts c =
-    let i = invalid c.args.self c.args.piece.now c.args.quota c.args.out.now (sym c.accepts.ensures ∙ c.if-not-accepts.true) in
-    record { goes = sym i.0; takes = sym i.1; answers = sym i.2; writes = sym i.3 }
 
 pub read-state-requires : goal.read-state-requires
 read-state-requires c =
@@ -27,7 +22,7 @@ overflow_sub-result c =
     omega (
       arith,
       ap (λ (z : Pieces). z.taken) c.read-state.ensures.goes,
-      advance-taken c.args.self (take (c.least-end.result - 0) c.args.piece.now),
+      advance-taken c.args.self (take c.min.result c.args.piece.now),
     )
 
 pub answer-requires : goal.answer-requires
@@ -35,11 +30,10 @@ answer-requires c =
     let a = valid_allows c.args.self c.args.quota (length c.args.out.now) (sym c.accepts.ensures ∙ c.if-not-accepts.false) in
     ap (λ (z : Pieces). listed z.refused) c.read-state.ensures.goes ∙ (advance-sound _ _ a.sound).lists
 
-pub returns : goal.returns
-returns c =
+pub returns-clause-takes : goal.returns-clause-takes
+returns-clause-takes c =
     let x = c.args in
-    let z = offered-part x.piece.now x.quota c.least-end.result c.least-end.ensures in
-    let f = feeds x.self x.piece.now x.quota x.out.now (sym c.accepts.ensures ∙ c.if-not-accepts.false)
+    let z = offered-part x.piece.now x.quota c.min.result c.min.ensures in
+    (feeds x.self x.piece.now x.quota x.out.now (sym c.accepts.ensures ∙ c.if-not-accepts.false)
     (c.read-state.ensures.goes ∙ ap (advance x.self) z)
-    (c.read-state.ensures.writes ∙ ap (λ (xs : List ℕ). placed x.out.now (filled x.self.position) (gathered x.self xs)) z) in
-    record { goes = f.state; takes = f.taken; answers = c.answer.ensures ∙ f.answer; writes = f.wrote }
+    (c.read-state.ensures.writes ∙ ap (λ (xs : List ℕ). placed x.out.now (filled x.self.position) (gathered x.self xs)) z)).taken
