@@ -7,19 +7,21 @@ use mathlib.Core.Bool.{Bool, true, false, cond}
 use mathlib.Core.List.{List, [], ◌∷◌, ◌++◌, append-nil, append_assoc}
 use lib.Dec.{ltb}
 use lib.ListN.{length, take, set, length-append}
+use Rattle.std.specs.Prelude.{Some, None, Ok, Err}
 use Rattle.grammar.specs.Grammar.{Grammar}
 use Rattle.grammar.specs.Reading.{value_limit, value, refused}
 use Rattle.grammar.specs.helpers.Judge.{header}
 use Rattle.grammar.proofs.Loop.{header-long}
 use Rattle.octets.specs.Numbers.{length_limit}
+use Rattle.octets.specs.Reading.{number_of, place_of}
+use Rattle.octets.specs.declared.Refusal.{Refusal}
 use Rattle.octets.proofs.Entries.{padded-take, padded-set}
 use Rattle.ranges.specs.declared.Element.{Element}
 use Rattle.ranges.specs.declared.Range.{Range}
-use Rattle.ranges.specs.declared.Outcome.{Outcome}
 use Rattle.ranges.specs.Meaning.{begin, end, kept, resolved, satisfiable, answer}
 use Rattle.ranges.specs.Grammar.{Name, others, element_limit, elements, capped, rules}
-use Rattle.ranges.specs.Reading.{reading, outcome_verdict, unused, filled, table_of, refused_reading, Answered}
-use Rattle.ranges.specs.helpers.Scan.{outcome_of, FoundBefore, Found, Read}
+use Rattle.ranges.specs.Reading.{reading, unused, filled, table_of, Answered}
+use Rattle.ranges.specs.helpers.Scan.{FoundBefore, Found, Read}
 use Rattle.ranges.proofs.Scan.{left-none, left-some, no_more, element_missing}
 
 -- ## One element more
@@ -123,22 +125,29 @@ module _ {n : ℕ} {s : List ℕ} {t : List Range} {count seen i : ℕ} (w : Fil
       all_read : reading n s ≡ value (answer (resolved n w.read))
       all_read = reading-is ∙ no_more n s behind h ∙ ap (λ (xs : List Element). value (answer (resolved n xs))) elements-are
 
-      pub told : (o : Outcome) → o ≡ outcome_of count → Answered n s (record { outcome = o; ranges = t })
-      told o is = go (resolved n w.read) (is ∙ ap outcome_of w.counted) (resolved-few n w.read) all_read w.is
+      pub told_none : count ≡ 0 → Answered n s (Ok None)
+      told_none z = go (resolved n w.read) (sym z ∙ w.counted) all_read
         where
-          go : (rs : List Range) → o ≡ outcome_of (length rs) → length rs ≤ length w.read → reading n s ≡ value (answer rs) → t ≡ filled rs
-              → Answered n s (record { outcome = o; ranges = t })
-          go [] l few e f = (ap (λ (x : Outcome). outcome_verdict x t) l ∙ sym e, f ∙ sym (ap table_of e))
+          go : (rs : List Range) → 0 ≡ length rs → reading n s ≡ value (answer rs) → Answered n s (Ok None)
+          go [] l e = (sym e, sym (ap table_of e))
+          go (r ∷ rs) l e = absurd (omega arith)
+
+      pub told_some : (count ≡ 0 → ⊥) → Answered n s (Ok (Some (record { count = count; entries = t })))
+      told_some z = go (resolved n w.read) w.counted (resolved-few n w.read) all_read w.is
+        where
+          go : (rs : List Range) → count ≡ length rs → length rs ≤ length w.read → reading n s ≡ value (answer rs) → t ≡ filled rs
+              → Answered n s (Ok (Some (record { count = count; entries = t })))
+          go [] l few e f = absurd (z l)
           go (r ∷ rs) l few e f = (
-            ap (λ (x : Outcome). outcome_verdict x t) l
+            ap (λ (k : ℕ). value (satisfiable k (take k t))) l
                 ∙ ap (λ (u : List Range). value (satisfiable (length (r ∷ rs)) u))
                 (ap (take (length (r ∷ rs))) f ∙ padded-take unused element_limit (r ∷ rs) (omega (arith, w.found.before.few)))
                 ∙ sym e,
             f ∙ sym (ap table_of e),
           )
 
-pub refused-answer : (n : ℕ) (s : List ℕ) {number place : ℕ} → reading n s ≡ refused number place → Answered n s (refused_reading number place)
-refused-answer n s e = (sym e, sym (ap table_of e))
+pub refused-answer : (n : ℕ) (s : List ℕ) (r : Refusal) → reading n s ≡ refused (number_of r) (place_of r) → Answered n s (Err r)
+refused-answer n s r e = (sym e, sym (ap table_of e))
 
 -- the argument; then the length of the value
 pub length-refused : (n : ℕ) (s : List ℕ) → length_limit < n → reading n s ≡ refused 9 0
@@ -148,6 +157,6 @@ pub long-refused : (n : ℕ) (s : List ℕ) → n ≤ length_limit → value_lim
 long-refused n s small h = rw (le-leb n length_limit small) (header-long (rules n s) s h)
 
 -- a step that stopped has the answer
-pub refused-found : (n : ℕ) (s : List ℕ) {number place : ℕ} → n ≤ length_limit → header (rules n s) s ≡ refused number place
-    → Answered n s (refused_reading number place)
-refused-found n s small e = refused-answer n s (rw (le-leb n length_limit small) e)
+pub refused-found : (n : ℕ) (s : List ℕ) (r : Refusal) → n ≤ length_limit → header (rules n s) s ≡ refused (number_of r) (place_of r)
+    → Answered n s (Err r)
+refused-found n s r small e = refused-answer n s r (rw (le-leb n length_limit small) e)

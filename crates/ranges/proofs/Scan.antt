@@ -35,7 +35,8 @@ use Rattle.scans.proofs.Words.{word-whole, word-inside}
 use Rattle.ranges.specs.declared.Element.{Element}
 use Rattle.ranges.specs.declared.Element.TheVariants.{Closed, Open, Suffix}
 use Rattle.ranges.specs.declared.Step.{Step}
-use Rattle.ranges.specs.declared.Step.TheVariants.{Passed, Stopped}
+use Rattle.std.specs.Prelude.{Result, Ok, Err}
+use Rattle.octets.specs.declared.Refusal.{Refusal}
 use Rattle.ranges.specs.Grammar.{Name, first, last, sign, suffix, MINUS, COMMA, blanks, element, others, unit, capped, positions, element_of, elements}
 use Rattle.ranges.specs.Grammar.{opens?, opened, last?, forward, element_limit, rules}
 use Rattle.ranges.specs.helpers.Scan.{left, DigitsAt, FoundBefore, Found, ElementAt, Read, StepAt}
@@ -436,9 +437,9 @@ module _ (n : ℕ) (s : List ℕ) {xs : List Element} {i : ℕ} (x : FoundBefore
 -- ## Steps
 
 -- a step from e is one from an earlier place
-pub steps_on : (n : ℕ) (s : List ℕ) (xs : List Element) (i e : ℕ) (r : Step) → i ≤ e → StepAt n s xs e r → StepAt n s xs i r
-steps_on n s xs i e (Passed x f) a w = record { found = w.found; further = omega (arith, w.further) }
-steps_on n s xs i e (Stopped x) a w = w
+pub steps_on : (n : ℕ) (s : List ℕ) (xs : List Element) (i e : ℕ) (r : Result Step Refusal) → i ≤ e → StepAt n s xs e r → StepAt n s xs i r
+steps_on n s xs i e (Ok p) a w = record { found = w.found; further = omega (arith, w.further) }
+steps_on n s xs i e (Err x) a w = w
 
 -- what is left behind no element, and behind some
 pub left-none : (m : ℕ) → m ≡ 0 → left m ≡ element ⨾ others

@@ -5,7 +5,7 @@ use Rattle.ranges.proofs.Filled.{Filling}
 use Rattle.ranges.proofs.read_elements.Given as goal
 
 abbrev pub invariant-loop-at : goal.invariant-loop-at
-invariant-loop-at l = Filling l.entity_length l.s l.ranges l.count l.elements l.at
+invariant-loop-at l = Filling l.entity_length l.s l.entries l.count l.elements l.at
 
 abbrev pub decreases-loop-at : goal.decreases-loop-at
 decreases-loop-at l = length l.s - l.at

@@ -1,26 +1,25 @@
 -- `ranges::read_suffix` meets its contract: each way out is what the grammar leaves where no number stands.
-use mathlib.Core.Path.{sym, subst}
-use Rattle.ranges.specs.helpers.Scan.{StepAt}
+use Rattle.std.proofs.Common.{◌≡◌, ◌<◌, length, get_or, arith}
+use Rattle.grammar.specs.Reading.{refused}
+use Rattle.grammar.specs.helpers.Judge.{header}
+use Rattle.ranges.specs.Grammar.{rules}
 use Rattle.ranges.proofs.Scan.{element_missing, element_no_number, suffix_missing, suffix-read}
 use Rattle.ranges.proofs.read_suffix.Goals as goal
 
-pub returns-then-s-start : goal.returns-then-s-start
-returns-then-s-start c n xs room x =
+pub returns-then-start-s : goal.returns-then-start-s
+returns-then-start-s c n xs room x =
     let a = c.args in
-    subst (StepAt n a.s.now xs a.start) (sym c.malformed.ensures) (element_missing n a.s.now x c.if-s-start.true)
+    let out = element_missing n a.s.now x in
+    let other : a.start < length a.s.now → (get_or a.s.now a.start 0 ≡ 45 → ⊥) → header (rules n a.s.now) a.s.now ≡ refused 1 a.start =
+    λ h. element_no_number n a.s.now x h c.requires in
+    grind (arith, out, other)
 
-pub returns-then-s-start-ne45 : goal.returns-then-s-start-ne45
-returns-then-s-start-ne45 c n xs room x =
+pub returns-in_default : goal.returns-in_default
+returns-in_default c n xs room x =
     let a = c.args in
-    subst (StepAt n a.s.now xs a.start) (sym c.malformed-then-s-start-ne45.ensures)
-    (element_no_number n a.s.now x c.if-s-start.false c.requires c.if-s-start-ne45.true)
+    suffix_missing n a.s.now x room (omega arith) (omega arith) c.in_default.ensures
 
-pub returns-in-Missing : goal.returns-in-Missing
-returns-in-Missing c n xs room x =
+pub returns : goal.returns
+returns c n xs room x =
     let a = c.args in
-    subst (StepAt n a.s.now xs a.start) (sym c.malformed-in-Missing.ensures)
-    (suffix_missing n a.s.now x room c.if-s-start.false c.if-s-start-ne45.false c.in-Missing.ensures)
-
-pub returns-in-Digits : goal.returns-in-Digits
-returns-in-Digits c n xs room x =
-    suffix-read n c.args.s.now x room c.if-s-start.false c.if-s-start-ne45.false _ _ c.in-Digits.ensures
+    suffix-read n a.s.now x room (omega arith) (omega arith) _ _ c.in-Some.ensures

@@ -1,30 +1,20 @@
 -- For the contracts of the reader's helpers.
-use Rattle.std.specs.Prelude.{ℕ, zero, suc, ◌≤◌, ◌<◌, ◌≡◌, false, List, [], ◌∷◌, ◌++◌, length}
+use Rattle.std.specs.Prelude.{ℕ, zero, suc, ◌≤◌, ◌<◌, ◌≡◌, false, List, [], ◌∷◌, ◌++◌, length, Option, Some, None, Result, Ok, Err}
 use Rattle.grammar.specs.Grammar.{Part, Grammar, ◌⨾◌}
 use Rattle.grammar.specs.Reading.{refused}
-use Rattle.grammar.specs.Refusals.{MALFORMED}
 use Rattle.grammar.specs.Endings.{ended}
 use Rattle.grammar.specs.helpers.Judge.{header}
 use Rattle.grammar.specs.helpers.Checks.{ahead}
 use Rattle.grammar.specs.helpers.Scans.{slice, from}
 use Rattle.octets.specs.Bytes.{digit?}
+use Rattle.octets.specs.Reading.{number_of, place_of}
+use Rattle.octets.specs.declared.Refusal.{Refusal}
 use Rattle.scans.specs.helpers.Runs.{run_end}
 use Rattle.octets.specs.Numbers.{length_limit}
 use Rattle.ranges.specs.declared.Element.{Element}
-use Rattle.ranges.specs.declared.Outcome.{Outcome}
-use Rattle.ranges.specs.declared.Outcome.TheVariants.{Satisfiable, Unsatisfiable}
 use Rattle.ranges.specs.declared.Step.{Step}
-use Rattle.ranges.specs.declared.Step.TheVariants.{Passed, Stopped}
 use Rattle.ranges.specs.declared.Number.{Number}
-use Rattle.ranges.specs.declared.Number.TheVariants.{Digits, Missing}
 use Rattle.ranges.specs.Grammar.{Name, element, others, element_limit, capped, elements, opened, forward, rules}
-
-abbrev pub malformed_at : ℕ → Step
-malformed_at place = Stopped (record { number = MALFORMED; place = place })
-
-abbrev pub outcome_of : ℕ → Outcome
-outcome_of zero = Unsatisfiable
-outcome_of (suc n) = Satisfiable (suc n)
 
 -- what is left of the grammar behind so many elements
 abbrev pub left : ℕ → Grammar Name
@@ -37,9 +27,9 @@ pub record DigitsAt (s : List ℕ) (i v e : ℕ) : Type 0 where
   pub ends : e ≡ run_end digit? s i
   pub is : capped (slice s i e) ≡ v
 
-abbrev pub NumberAt : List ℕ → ℕ → Number → Type 0
-NumberAt s i (Digits v e) = DigitsAt s i v e
-NumberAt s i Missing = run_end digit? s i ≡ i
+abbrev pub NumberAt : List ℕ → ℕ → Option Number → Type 0
+NumberAt s i (Some d) = DigitsAt s i d.value d.end
+NumberAt s i None = run_end digit? s i ≡ i
 
 module _ (n : ℕ) (s : List ℕ) where
   -- the parts of the elements xs stand before the place i, and no byte from there on breaks a limit by them alone
@@ -72,17 +62,17 @@ module _ (n : ℕ) (s : List ℕ) where
     pub found : FoundBefore others (xs ++ x ∷ []) e
     pub further : i < e
 
-  abbrev pub StepAt : List Element → ℕ → Step → Type 0
-  StepAt xs i (Passed x e) = Read xs i x e
-  StepAt xs i (Stopped r) = header (rules n s) s ≡ refused r.number r.place
+  abbrev pub StepAt : List Element → ℕ → Result Step Refusal → Type 0
+  StepAt xs i (Ok p) = Read xs i p.element p.end
+  StepAt xs i (Err r) = header (rules n s) s ≡ refused (number_of r) (place_of r)
 
 -- what a step answers, whatever entity there is and whatever elements stand before it
 module _ (s : List ℕ) where
-  abbrev pub ElementRead : ℕ → Step → Type 0
+  abbrev pub ElementRead : ℕ → Result Step Refusal → Type 0
   ElementRead i r = (n : ℕ) (xs : List Element) → length xs < element_limit → ElementAt n s xs i → StepAt n s xs i r
 
-  abbrev pub SeventeenthAt : ℕ → Step → Type 0
-  SeventeenthAt i r = (n : ℕ) (xs : List Element) → length xs ≡ element_limit → ElementAt n s xs i → StepAt n s xs i r
+  abbrev pub SeventeenthAt : ℕ → Refusal → Type 0
+  SeventeenthAt i r = (n : ℕ) (xs : List Element) → length xs ≡ element_limit → ElementAt n s xs i → StepAt n s xs i (Err r)
 
-  abbrev pub NextAt : ℕ → ℕ → Step → Type 0
+  abbrev pub NextAt : ℕ → ℕ → Result Step Refusal → Type 0
   NextAt count i r = (n : ℕ) (xs : List Element) → length xs ≡ count → i < length s → Found n s xs i → StepAt n s xs i r
