@@ -471,6 +471,9 @@ module _ (y : ℕ) (s : List ℕ) (k : ℕ) (a : AfterDay y s k) where
   no_end : ends (forms (rest_of k) (rest_bytes k)) 3 ≡ void
   no_end = ap (λ (x : Grammar Name). alt void (alt x void)) (long-shut k).3
 
+  pub goes-rfc1123 : standing s 3 44 ≡ true → Goes y rfc1123 s k
+  goes-rfc1123 e = to rfc1123 (λ at. rw ((standing-is s 3 44 e).1, (long-shut k).0) (alt-void (deriv rfc1123 3 44))) no_text no_end
+
   pub goes-long : standing s 3 44 ≡ false → standing s 3 32 ≡ false → AtRfc850 y s k
   goes-long e f =
       to (long k) (λ at. rw (standing-not s 3 44 e at, standing-not s 3 32 f at) (alt-void (deriv (long k) 3 (get_or s 3 0))))

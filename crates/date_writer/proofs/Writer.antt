@@ -7,14 +7,15 @@ use mathlib.Core.List.{List, [], ◌∷◌}
 use lib.IntN.{ℤ}
 use lib.ListN.{length, take}
 use Rattle.grammar.specs.Reading.{value}
-use Rattle.octets.specs.declared.Written.{Written}
-use Rattle.octets.specs.declared.Written.TheVariants.{Length, Refused}
-use Rattle.octets.specs.Writing.{written}
+use Rattle.std.specs.Prelude.{Result, Ok, Err, Some, None}
+use Rattle.octets.specs.declared.Refusal.{Refusal}
+use Rattle.octets.specs.declared.Refusal.TheVariants.{OutOfRange, OutputTooShort}
+use Rattle.octets.specs.Reading.{verdict}
 use Rattle.octets.proofs.Writing as W
 use Rattle.text.specs.Placing.{placed}
 use Rattle.text.proofs.Placing.{placed-front}
 use Rattle.calendar.specs.declared.Fields.{Fields}
-use Rattle.calendar.specs.declared.Told.TheVariants.{On, Outside}
+use Rattle.calendar.specs.declared.Moment.{Moment}
 use Rattle.calendar.specs.Instants.{in_range?, told, fields_at, weekday_at}
 use Rattle.calendar.proofs.Dates.{date-of}
 use Rattle.calendar.proofs.Demands.{fields_exist}
@@ -50,19 +51,26 @@ text-found k f l1 l2 l3 d1 d2 m1 m2 m3 y1 y2 y3 y4 h1 h2 i1 i2 s1 s2 e0 e1 e2 e3
 -- ## The calendar's answer
 
 module _ (s : ℤ) where
-  pub told_is : (f : Fields) (w : ℕ) → On f w ≡ told s → (in_range? s ≡ true) × (f ≡ fields_at s) × (w ≡ weekday_at s)
+  pub told_is : (m : Moment) → Some m ≡ told s → (in_range? s ≡ true) × (m.fields ≡ fields_at s) × (m.weekday ≡ weekday_at s)
   unfolding told
-  told_is f w e = go (in_range? s) refl e
+  told_is m e = go (in_range? s) refl e
     where
-      go : (t : Bool) → in_range? s ≡ t → On f w ≡ cond t (On (fields_at s) (weekday_at s)) Outside → (in_range? s ≡ true) × (f ≡ fields_at s) × (w ≡ weekday_at s)
-      go true d e = (d, cc, cc)
+      at : Moment
+      at = record { fields = fields_at s; weekday = weekday_at s }
+
+      go : (t : Bool) → in_range? s ≡ t → Some m ≡ cond t (Some at) None
+          → (in_range? s ≡ true) × (m.fields ≡ fields_at s) × (m.weekday ≡ weekday_at s)
+      go true d e = let is : m ≡ at = cc in (d, ap (λ (x : Moment). x.fields) is, ap (λ (x : Moment). x.weekday) is)
       go false d e = absurd (let z : ◌≡◌ {A = ℕ} 0 1 = cc in omega arith)
 
-  pub told-outside : Outside ≡ told s → in_range? s ≡ false
+  pub told-outside : None ≡ told s → in_range? s ≡ false
   unfolding told
   told-outside e = go (in_range? s) refl e
     where
-      go : (t : Bool) → in_range? s ≡ t → Outside ≡ cond t (On (fields_at s) (weekday_at s)) Outside → in_range? s ≡ false
+      at : Moment
+      at = record { fields = fields_at s; weekday = weekday_at s }
+
+      go : (t : Bool) → in_range? s ≡ t → None ≡ cond t (Some at) None → in_range? s ≡ false
       go true d e = absurd (let z : ◌≡◌ {A = ℕ} 0 1 = cc in omega arith)
       go false d e = d
 
@@ -71,9 +79,9 @@ module _ (s : ℤ) where
   weekday-small = omega arith
 
   -- a day of the week and a month of the tables
-  pub in_tables : (f : Fields) (w : ℕ) → On f w ≡ told s → (w < 7) × (1 ≤ f.month) × (f.month ≤ 12)
-  in_tables f w e =
-      let t = told_is f w e in
+  pub in_tables : (m : Moment) → Some m ≡ told s → (m.weekday < 7) × (1 ≤ m.fields.month) × (m.fields.month ≤ 12)
+  in_tables m e =
+      let t = told_is m e in
       let d = date-of (fields_at s) (fields_exist s t.0) in (
         omega (arith, weekday-small, t.2),
         omega (arith, ap (λ (x : Fields). x.month) t.1, d.from_january),
@@ -87,24 +95,23 @@ module _ (s : ℤ) where
   text_length k f = refl
 
   module _ (old : List ℕ) where
-    abbrev pub Answered : Written → List ℕ → Type 0
-    Answered r new = (written r ≡ date_writing s (length old)) × (new ≡ date_output s old)
+    abbrev pub Answered : Result ℕ Refusal → List ℕ → Type 0
+    Answered r new = (verdict r ≡ date_writing s (length old)) × (new ≡ date_output s old)
 
     long : length (instant_text s) ≡ 29
     long = text_length (weekday_at s) (fields_at s)
 
-    pub refuses-range : (r : Written) → r ≡ Refused (record { number = 9; place = 0 }) → Outside ≡ told s → Answered r old
-    refuses-range r e h = W.refuses-argument (not (in_range? s)) (instant_text s) old r e (ap not (told-outside h))
+    pub refuses-range : None ≡ told s → Answered (Err OutOfRange) old
+    refuses-range h = W.refuses-argument (not (in_range? s)) (instant_text s) old (ap not (told-outside h))
 
-    pub refuses-short : (r : Written) → r ≡ Refused (record { number = 8; place = 0 }) → (f : Fields) (w : ℕ) → On f w ≡ told s → length old < 29 → Answered r old
-    refuses-short r e f w t h =
-        W.refuses-short (not (in_range? s)) (instant_text s) old r e (ap not (told_is f w t).0) (omega (arith, long))
+    pub refuses-short : (m : Moment) → Some m ≡ told s → length old < 29 → Answered (Err OutputTooShort) old
+    refuses-short m t h = W.refuses-short (not (in_range? s)) (instant_text s) old (ap not (told_is m t).0) (omega (arith, long))
 
-    pub writes : (f : Fields) (w : ℕ) → On f w ≡ told s → 29 ≤ length old → (text new : List ℕ) → text ≡ date_text w f → new ≡ placed old 0 text
-        → Answered (Length 29) new
-    writes f w t h text new e p =
-        let q = told_is f w t in
-        let x : text ≡ instant_text s = e ∙ ap (λ (k : ℕ). date_text k f) q.2 ∙ ap (date_text (weekday_at s)) q.1 in
+    pub writes : (m : Moment) → Some m ≡ told s → 29 ≤ length old → (text new : List ℕ) → text ≡ date_text m.weekday m.fields
+        → new ≡ placed old 0 text → Answered (Ok 29) new
+    writes m t h text new e p =
+        let q = told_is m t in
+        let x : text ≡ instant_text s = e ∙ ap (λ (k : ℕ). date_text k m.fields) q.2 ∙ ap (date_text (weekday_at s)) q.1 in
         W.writes-all (not (in_range? s)) (instant_text s) old 29 new (sym long) (ap not q.0) (omega (arith, long))
         (p ∙ ap (placed old 0) x ∙ placed-front old (instant_text s) (omega (arith, long)))
 

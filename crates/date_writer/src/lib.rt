@@ -2,40 +2,38 @@
 #![tactic(auto)]
 
 ghost use Rattle.std.specs.Prelude.{◌≡◌, ◌≤◌, ◌<◌, length, get_or};
-ghost use Rattle.octets.specs.Writing.{written};
+ghost use Rattle.octets.specs.Reading.{verdict};
 ghost use Rattle.date_writer.specs.Writing.{date_text, date_writing, date_output, tens, ones};
 
-use calendar::{Fields, Told};
+use calendar::Moment;
 use date::{DAYS, MONTHS};
-use octets::{OUT_OF_RANGE, OUTPUT_TOO_SHORT, Written};
+use octets::Refusal;
 
 // The bytes of the form that is written.
 const TEXT_LEN: usize = 29;
 
 // Writes an instant at the front of `out`, in the form of RFC 1123, and keeps the rest of `out`.
-pub fn write(seconds: i64, out: &mut [u8]) -> Written
-    ensures answers { written result ≡ date_writing seconds (length out.old) }
+pub fn write(seconds: i64, out: &mut [u8]) -> Result<usize, Refusal>
+    ensures answers { verdict result ≡ date_writing seconds (length out.old) }
     ensures writes { out.new ≡ date_output seconds out.old }
 {
-    match calendar::fields_at(seconds) {
-        Told::Outside => octets::unwritten(OUT_OF_RANGE),
-        Told::On { fields, weekday } => {
-            if out.len() < TEXT_LEN {
-                return octets::unwritten(OUTPUT_TOO_SHORT);
-            }
-            let text = text_of(weekday as usize, fields);
-            text::put_bytes(&text, out, 0);
-            Written::Length(TEXT_LEN)
-        }
+    let Some(moment) = calendar::fields_at(seconds) else {
+        return Err(Refusal::OutOfRange);
+    };
+    if out.len() < TEXT_LEN {
+        return Err(Refusal::OutputTooShort);
     }
+    text::put_bytes(&text_of(moment), out, 0);
+    Ok(TEXT_LEN)
 }
 
 // `Sun, 06 Nov 1994 08:49:37 GMT`
-fn text_of(weekday: usize, fields: Fields) -> [u8; 29]
-    requires { (weekday < 7) × (1 ≤ fields.month) × (fields.month ≤ 12) }
-    ensures { result ≡ date_text weekday fields }
+fn text_of(moment: Moment) -> [u8; 29]
+    requires { (moment.weekday < 7) × (1 ≤ moment.fields.month) × (moment.fields.month ≤ 12) }
+    ensures { result ≡ date_text moment.weekday moment.fields }
 {
-    let day_place = 3 * weekday;
+    let fields = moment.fields;
+    let day_place = 3 * moment.weekday as usize;
     let month_place = 3 * (fields.month as usize - 1);
     let century = fields.year / 100;
     [

@@ -5,7 +5,7 @@ use Rattle.date_writer.proofs.text_of.Goals as goal
 pub returns : goal.returns
 returns c =
     let x = c.args in
-    text-found x.weekday x.fields _ _ _ _ _ _ _ _ _ _ _ _ _ _ _ _ _ _
+    text-found x.moment.weekday x.moment.fields _ _ _ _ _ _ _ _ _ _ _ _ _ _ _ _ _ _
     c.letter.ensures c.letter-2.ensures c.letter-3.ensures
     c.tens_digit.ensures c.ones_digit.ensures
     c.letter-4.ensures c.letter-5.ensures c.letter-6.ensures
