@@ -1,10 +1,10 @@
 // Product tokens with comments: RFC 2616 3.8 and 2.2.
 #![tactic(auto)]
 
-ghost use Rattle.std.specs.Prelude.{◌≡◌, ◌≤◌, ◌<◌, max, length};
+ghost use Rattle.std.specs.Prelude.{◌≡◌, ◌≤◌, ◌<◌, length};
 ghost use Rattle.grammar.specs.helpers.Judge.{header};
 ghost use Rattle.products.specs.Grammar.{rules};
-ghost use Rattle.products.specs.Reading.{verdict};
+ghost use Rattle.octets.specs.Reading.{verdict};
 ghost use Rattle.products.specs.helpers.Scan.{CommentAt, ContentAt, PlainAt, Inside, Found, NoComment, ItemAt};
 
 use octets::Refusal;
@@ -21,43 +21,32 @@ const COMMENT_TEXT: octets::Class = [
 ];
 
 // How many products and outermost comments there are, and the deepest level of comments.
-#[derive(Clone, Copy)]
+#[derive(Clone, Copy, Debug, PartialEq, Eq)]
 pub struct Products {
     pub products: usize,
     pub comments: usize,
     pub deepest: usize,
 }
 
-#[derive(Clone, Copy)]
-pub enum Reading {
-    Read(Products),
-    Refused(Refusal),
-}
-
 // An item: the place behind it, and what was found through it.
 #[derive(Clone, Copy)]
-enum Item {
-    Read { end: usize, found: Products },
-    Refused(Refusal),
+struct Item {
+    end: usize,
+    found: Products,
 }
 
 // A comment, or what one holds: the place where it ends, and how many levels deep it is.
 #[derive(Clone, Copy)]
-enum Comment {
-    Closed { end: usize, levels: usize },
-    Refused(Refusal),
+struct Closed {
+    end: usize,
+    levels: usize,
 }
 
 // Reads products and comments, with blanks between and at least one between two products.
-pub fn read(s: &[u8]) -> Reading
+pub fn read(s: &[u8]) -> Result<Products, Refusal>
     ensures { verdict result ≡ header rules s.now }
 {
-    if s.len() > octets::VALUE_LIMIT {
-        return Reading::Refused(Refusal {
-            number: octets::VALUE_TOO_LONG,
-            place: octets::VALUE_LIMIT,
-        });
-    }
+    octets::check_length(s)?;
     let mut found = Products {
         products: 0,
         comments: 0,
@@ -65,175 +54,111 @@ pub fn read(s: &[u8]) -> Reading
     };
     let mut at = 0;
     loop {
-        match read_item(s, at, found) {
-            Item::Refused(refusal) => return Reading::Refused(refusal),
-            Item::Read {
-                end,
-                found: through,
-            } => {
-                if s.len() <= end {
-                    return Reading::Read(through);
-                }
-                found = through;
-                at = scans::class_end(octets::BLANK, s, end);
-            }
+        let item = read_item(s, at, found)?;
+        if s.len() <= item.end {
+            return Ok(item.found);
         }
+        found = item.found;
+        at = scans::class_end(octets::BLANK, s, item.end);
     }
 }
 
 // Reads the product or the comment that stands at `at`.
-fn read_item(s: &[u8], at: usize, found: Products) -> Item
+fn read_item(s: &[u8], at: usize, found: Products) -> Result<Item, Refusal>
     requires { Found s.now at found }
     ensures { ItemAt s.now at result }
 {
     if s.len() <= at {
-        return Item::Refused(Refusal {
-            number: octets::MALFORMED,
-            place: at,
-        });
+        return Err(Refusal::Malformed(at));
     }
     if s[at] != b'(' {
         return read_product(s, at, found);
     }
-    match read_comment(s, at, LEVEL_LIMIT) {
-        Comment::Refused(refusal) => Item::Refused(refusal),
-        Comment::Closed { end, levels } => Item::Read {
-            end,
-            found: Products {
-                products: found.products,
-                comments: found.comments + 1,
-                deepest: max(found.deepest, levels),
-            },
+    let comment = read_comment(s, at, LEVEL_LIMIT)?;
+    Ok(Item {
+        end: comment.end,
+        found: Products {
+            comments: found.comments + 1,
+            deepest: found.deepest.max(comment.levels),
+            ..found
         },
-    }
+    })
 }
 
 // Reads the product that stands at `at`: a token, and a slash with another token if there is one.
-fn read_product(s: &[u8], at: usize, found: Products) -> Item
+fn read_product(s: &[u8], at: usize, found: Products) -> Result<Item, Refusal>
     requires { NoComment s.now at found }
     ensures { ItemAt s.now at result }
 {
     let name = scans::class_end(octets::TOKEN, s, at);
     if name == at {
-        return Item::Refused(Refusal {
-            number: octets::MALFORMED,
-            place: at,
-        });
+        return Err(Refusal::Malformed(at));
     }
     let found = Products {
         products: found.products + 1,
-        comments: found.comments,
-        deepest: found.deepest,
+        ..found
     };
-    if s.len() <= name {
-        return Item::Read { end: name, found };
-    }
-    if s[name] != b'/' {
-        return Item::Read { end: name, found };
+    if s.len() <= name || s[name] != b'/' {
+        return Ok(Item { end: name, found });
     }
     let end = scans::class_end(octets::TOKEN, s, name + 1);
     if end == name + 1 {
-        return Item::Refused(Refusal {
-            number: octets::MALFORMED,
-            place: end,
-        });
+        return Err(Refusal::Malformed(end));
     }
-    Item::Read { end, found }
-}
-
-fn max(a: usize, b: usize) -> usize
-    ensures { result ≡ max a b }
-{
-    if a < b { b } else { a }
+    Ok(Item { end, found })
 }
 
 // Reads the comment that opens at `at`, where `allowed` more levels may be opened.
 #[cycle(read_comment_read_content)]
-fn read_comment(s: &[u8], at: usize, allowed: usize) -> Comment
+fn read_comment(s: &[u8], at: usize, allowed: usize) -> Result<Closed, Refusal>
     requires { at < length s.now }
     ensures { CommentAt s.now at allowed result }
 {
     if allowed == 0 {
-        return Comment::Refused(Refusal {
-            number: octets::COMMENT_TOO_DEEP,
-            place: at,
-        });
+        return Err(Refusal::CommentTooDeep(at));
     }
-    match read_content(s, at + 1, allowed - 1) {
-        Comment::Refused(refusal) => Comment::Refused(refusal),
-        Comment::Closed { end, levels } => Comment::Closed {
-            end: end + 1,
-            levels: levels + 1,
-        },
-    }
+    let content = read_content(s, at + 1, allowed - 1)?;
+    Ok(Closed {
+        end: content.end + 1,
+        levels: content.levels + 1,
+    })
 }
 
 // Reads text, pairs and comments from `from` to the `)` that closes them, where `allowed` more levels may be opened.
 #[cycle(read_comment_read_content)]
-fn read_content(s: &[u8], from: usize, allowed: usize) -> Comment
+fn read_content(s: &[u8], from: usize, allowed: usize) -> Result<Closed, Refusal>
     requires { from ≤ length s.now }
     ensures { ContentAt s.now from allowed result }
 {
     let mut levels = 0;
     let mut i = from;
     while i < s.len() {
-        if s[i] == b')' {
-            return Comment::Closed { end: i, levels };
-        }
-        if s[i] == b'(' {
-            match read_comment(s, i, allowed) {
-                Comment::Refused(refusal) => return Comment::Refused(refusal),
-                Comment::Closed { end, levels: inner } => {
-                    levels = max(levels, inner);
-                    i = end;
-                }
+        match s[i] {
+            b')' => return Ok(Closed { end: i, levels }),
+            b'(' => {
+                let comment = read_comment(s, i, allowed)?;
+                levels = levels.max(comment.levels);
+                i = comment.end;
             }
-        } else {
-            match read_plain(s, i) {
-                Comment::Refused(refusal) => return Comment::Refused(refusal),
-                Comment::Closed { end, levels: _ } => {
-                    i = end;
-                }
-            }
+            _ => i = read_plain(s, i)?,
         }
     }
-    Comment::Refused(Refusal {
-        number: octets::MALFORMED,
-        place: i,
-    })
+    Err(Refusal::Malformed(i))
 }
 
-// Reads a byte of text or a pair.
-fn read_plain(s: &[u8], at: usize) -> Comment
+// Reads a byte of text or a pair: the place behind it.
+fn read_plain(s: &[u8], at: usize) -> Result<usize, Refusal>
     requires { Inside s.now at }
     ensures { PlainAt s.now at result }
 {
     if octets::in_class(COMMENT_TEXT, s[at]) {
-        return Comment::Closed {
-            end: at + 1,
-            levels: 0,
-        };
+        return Ok(at + 1);
     }
     if s[at] != b'\\' {
-        return Comment::Refused(Refusal {
-            number: octets::MALFORMED,
-            place: at,
-        });
+        return Err(Refusal::Malformed(at));
     }
-    if s.len() <= at + 1 {
-        return Comment::Refused(Refusal {
-            number: octets::MALFORMED,
-            place: at + 1,
-        });
+    if s.len() <= at + 1 || !octets::is_escaped(s[at + 1]) {
+        return Err(Refusal::Malformed(at + 1));
     }
-    if octets::is_escaped(s[at + 1]) {
-        return Comment::Closed {
-            end: at + 2,
-            levels: 0,
-        };
-    }
-    Comment::Refused(Refusal {
-        number: octets::MALFORMED,
-        place: at + 1,
-    })
+    Ok(at + 2)
 }

@@ -1,59 +1,44 @@
 -- `products::read_comment` and `products::read_content` meet their contracts: by the lemmas of Comments.
-use Rattle.std.proofs.Common.{ℕ, ◌+◌, ◌-◌, ◌*◌, ◌<◌, length, sym, subst, arith}
+use Rattle.std.proofs.Common.{sym, subst}
+use Rattle.std.proofs.lemmas.Result.{err_from_is_err_and}
 use Rattle.products.specs.helpers.Scan.{Passed}
-use Rattle.products.proofs.Comments.{some-refused, some-reads, passed_none, passed-plain, passed-refused}
+use Rattle.products.proofs.Comments.{some-refused, some-reads, passed-plain, passed-refused}
 use Rattle.products.proofs.Comments.{passed-cut_off, passed-comment, passed-comment-refused}
 use Rattle.products.proofs.+read_comment_read_content.Goals as goal
 
-pub read_comment-read_content-requires : goal.read_comment-read_content-requires
-read_comment-read_content-requires t c =
-    let n = length c.args.s.now in
-    let less : 2 * (n - (c.args.at + 1)) + 1 < 2 * (n - c.args.at) = omega (arith, c.requires) in
-    (subst (λ (j : ℕ). 2 * (n - (c.args.at + 1)) + 1 < j) c.decreases less, omega (arith, c.requires))
+pub read_comment-returns-in_err-content : goal.read_comment-returns-in_err-content
+read_comment-returns-in_err-content t c =
+    let p = err_from_is_err_and c.from_residual.result c.from_residual.ensures.1 in
+    rw (p.1, p.2) (some-refused c.args.s.now c.args.at c.args.allowed c.if-allowed-eq0.false _ _ c.in_err-content.ensures)
 
-pub read_comment-returns-in-Refused : goal.read_comment-returns-in-Refused
-read_comment-returns-in-Refused t c =
-    some-refused c.args.s.now c.args.at c.args.allowed c.if-allowed-eq0.false _ _ c.in-Refused.ensures
+pub read_comment-returns : goal.read_comment-returns
+read_comment-returns t c = some-reads c.args.s.now c.args.at c.args.allowed c.if-allowed-eq0.false _ _ c.in_ok-content.ensures
 
-pub read_comment-returns-in-Closed : goal.read_comment-returns-in-Closed
-read_comment-returns-in-Closed t c = some-reads c.args.s.now c.args.at c.args.allowed c.if-allowed-eq0.false _ _ c.in-Closed.ensures
-
-pub read_content-loop-i-init : goal.read_content-loop-i-init
-read_content-loop-i-init t c = passed_none c.args.s.now c.args.from c.args.allowed c.requires
-
-pub read_content-returns-then-s-i-eq41 : goal.read_content-returns-then-s-i-eq41
-read_content-returns-then-s-i-eq41 t c =
-    record { passed = c.loop-i.invariant; within_it = c.loop-i-test.true; ends = c.if-s-i-eq41.true }
-
-pub read_content-read_comment-requires : goal.read_content-read_comment-requires
-read_content-read_comment-requires t c =
-    let n = length c.args.s.now in
-    let at = c.loop-i-test.true in
-    let less : 2 * (n - c.loop-i.i) < 2 * (n - c.args.from) + 1 = omega (arith, at, c.loop-i.invariant.ordered) in
-    (subst (λ (j : ℕ). 2 * (n - c.loop-i.i) < j) c.decreases less, at)
-
-pub read_content-returns-in-Refused : goal.read_content-returns-in-Refused
-read_content-returns-in-Refused t c =
+pub read_content-returns-in_err-comment-in-40 : goal.read_content-returns-in_err-comment-in-40
+read_content-returns-in_err-comment-in-40 t c =
     let l = c.loop-i in
-    passed-comment-refused c.args.s.now c.args.from c.args.allowed l.i l.levels l.invariant c.loop-i-test.true c.if-s-i-eq40.true _ _
-    c.in-Refused.ensures
+    let p = err_from_is_err_and c.from_residual.result c.from_residual.ensures.1 in
+    rw (p.1, p.2) (passed-comment-refused c.args.s.now c.args.from c.args.allowed l.i l.levels l.invariant c.loop-i-test.true c.in-40.is _ _
+    c.in_err-comment-in-40.ensures)
 
-pub read_content-loop-i-preserved-in-Closed : goal.read_content-loop-i-preserved-in-Closed
-read_content-loop-i-preserved-in-Closed t c =
+pub read_content-loop-i-preserved-in-40 : goal.read_content-loop-i-preserved-in-40
+read_content-loop-i-preserved-in-40 t c =
     let x = c.args in
     let l = c.loop-i in
-    subst (Passed x.s.now x.from x.allowed c.in-Closed.end) (sym c.max-levels.ensures)
-    (passed-comment x.s.now x.from x.allowed l.i l.levels l.invariant c.loop-i-test.true c.if-s-i-eq40.true _ _ c.in-Closed.ensures)
+    let comment = c.in_ok-comment-in-40.comment in
+    subst (Passed x.s.now x.from x.allowed comment.end) (sym c.max-levels.ensures)
+    (passed-comment x.s.now x.from x.allowed l.i l.levels l.invariant c.loop-i-test.true c.in-40.is _ _ c.in_ok-comment-in-40.ensures)
 
-pub read_content-returns-in-Refused-read_plain : goal.read_content-returns-in-Refused-read_plain
-read_content-returns-in-Refused-read_plain t c =
+pub read_content-returns-in_err-i-in_default : goal.read_content-returns-in_err-i-in_default
+read_content-returns-in_err-i-in_default t c =
     let l = c.loop-i in
-    passed-refused c.args.s.now c.args.from c.args.allowed l.i l.levels l.invariant _ _ (c.in-Refused-read_plain.ensures c.args.allowed)
+    let p = err_from_is_err_and c.from_residual-in_err-i-in_default.result c.from_residual-in_err-i-in_default.ensures.1 in
+    rw (p.1, p.2) (passed-refused c.args.s.now c.args.from c.args.allowed l.i l.levels l.invariant _ _ (c.in_err-i-in_default.ensures c.args.allowed))
 
 pub read_content-loop-i-preserved : goal.read_content-loop-i-preserved
 read_content-loop-i-preserved t c =
     let l = c.loop-i in
-    passed-plain c.args.s.now c.args.from c.args.allowed l.i l.levels l.invariant _ c.in-Closed-read_plain.ensures
+    passed-plain c.args.s.now c.args.from c.args.allowed l.i l.levels l.invariant _ c.in_ok-i-in_default.ensures
 
 pub read_content-returns : goal.read_content-returns
 read_content-returns t c =

@@ -4,8 +4,8 @@ use lib.ListN.{length}
 use Rattle.products.specs.helpers.Scan.{Found}
 use Rattle.products.proofs.read.Given as goal
 
-abbrev pub invariant-loop-refusal : goal.invariant-loop-refusal
-invariant-loop-refusal l = Found l.s l.at l.found
+abbrev pub invariant-loop-item : goal.invariant-loop-item
+invariant-loop-item l = Found l.s l.at l.found
 
-abbrev pub decreases-loop-refusal : goal.decreases-loop-refusal
-decreases-loop-refusal l = length l.s - l.at
+abbrev pub decreases-loop-item : goal.decreases-loop-item
+decreases-loop-item l = length l.s - l.at

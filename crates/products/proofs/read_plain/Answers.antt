@@ -4,6 +4,7 @@ use mathlib.Core.Path.{sym, ◌∙◌}
 use lib.ListN.{get_or}
 use Rattle.products.proofs.Comments.{comment-text-bits, is-text, is-other, is-pair, is_no_pair, is-half-pair}
 use Rattle.products.proofs.read_plain.Goals as goal
+use Rattle.products.proofs.read_plain.Goals.{then-s-at-via-then-s-at, then-s-at-via-else-s-at+then-not-is_escaped}
 
 pub returns-then-in_class : goal.returns-then-in_class
 returns-then-in_class c =
@@ -20,19 +21,20 @@ returns-then-s-at-ne92 c a n p =
     is-other s n a p i c.requires t c.if-s-at-ne92.true
 
 pub returns-then-s-at : goal.returns-then-s-at
-returns-then-s-at c a n p = is-half-pair c.args.s.now n a p c.args.at c.requires.at c.if-s-at-ne92.false c.if-s-at.true
+returns-then-s-at c a n p =
+    elim c.then-s-at.branch [
+      | then-s-at-via-then-s-at w ↦ is-half-pair c.args.s.now n a p c.args.at c.requires.at c.if-s-at-ne92.false w.if-s-at.true
+      | then-s-at-via-else-s-at+then-not-is_escaped w ↦
+          is_no_pair c.args.s.now n a p c.args.at c.requires.at c.if-s-at-ne92.false w.if-s-at.false
+          (sym w.is_escaped.ensures ∙ w.if-not-is_escaped.true)
+    ]
 
-pub returns-then-is_escaped : goal.returns-then-is_escaped
-returns-then-is_escaped c =
+pub returns : goal.returns
+returns c =
     let b = c.if-s-at.false in
     record {
       forward = omega arith;
       inside = omega (arith, b);
       reads = λ n a p.
-          is-pair c.args.s.now n a p c.args.at c.requires.at c.if-s-at-ne92.false b (sym c.is_escaped.ensures ∙ c.if-is_escaped.true);
+          is-pair c.args.s.now n a p c.args.at c.requires.at c.if-s-at-ne92.false b (sym c.is_escaped.ensures ∙ c.if-not-is_escaped.false);
     }
-
-pub returns : goal.returns
-returns c a n p =
-    is_no_pair c.args.s.now n a p c.args.at c.requires.at c.if-s-at-ne92.false c.if-s-at.false
-    (sym c.is_escaped.ensures ∙ c.if-is_escaped.false)

@@ -10,6 +10,7 @@ use Rattle.grammar.specs.Reading.{refused}
 use Rattle.products.specs.helpers.Scan.{ItemRead}
 use Rattle.products.proofs.Items.{with_product, no_product, bare-product, no_second, slashed_product}
 use Rattle.products.proofs.read_product.Goals as goal
+use Rattle.products.proofs.read_product.Goals.{then-s-name-via-then-s-name, then-s-name-via-else-s-name+then-s-name-ne47}
 
 pub returns-then-name-at : goal.returns-then-name-at
 returns-then-name-at c =
@@ -18,10 +19,6 @@ returns-then-name-at c =
     let f = c.args.found in
     no_product s i f c.requires (sym (c.class_end-name.ensures token? token-bits) ∙ c.if-name-at.true)
 
-pub overflow_add-found : goal.overflow_add-found
-overflow_add-found c =
-    omega (arith, c.requires.at, c.requires.found.few_products)
-
 pub returns-then-s-name : goal.returns-then-s-name
 returns-then-s-name c =
     let s = c.args.s.now in
@@ -29,17 +26,12 @@ returns-then-s-name c =
     let f = c.args.found in
     let e = c.class_end-name.ensures token? token-bits in
     let n : run_end token? s i ≡ i → ⊥ = λ q. c.if-name-at.false (e ∙ q) in
-    let t = c.if-s-name.true in
-    subst (λ (m : ℕ). ItemRead s i m (with_product f)) (sym e) (bare-product s i f c.requires n (λ at. absurd (omega (arith, e, t))))
-
-pub returns-then-s-name-ne47 : goal.returns-then-s-name-ne47
-returns-then-s-name-ne47 c =
-    let s = c.args.s.now in
-    let i = c.args.at in
-    let f = c.args.found in
-    let e = c.class_end-name.ensures token? token-bits in
-    let n : run_end token? s i ≡ i → ⊥ = λ q. c.if-name-at.false (e ∙ q) in
-    subst (λ (m : ℕ). ItemRead s i m (with_product f)) (sym e) (bare-product s i f c.requires n (λ at q. c.if-s-name-ne47.true (ap (λ (m : ℕ). get_or s m 0) e ∙ q)))
+    subst (λ (m : ℕ). ItemRead s i m (with_product f)) (sym e)
+    (bare-product s i f c.requires n
+    (elim c.then-s-name.branch [
+      | then-s-name-via-then-s-name w ↦ λ at. absurd (omega (arith, e, w.if-s-name.true))
+      | then-s-name-via-else-s-name+then-s-name-ne47 w ↦ λ at q. w.if-s-name-ne47.true (ap (λ (m : ℕ). get_or s m 0) e ∙ q)
+    ]))
 
 pub returns-then-end-name : goal.returns-then-end-name
 returns-then-end-name c =

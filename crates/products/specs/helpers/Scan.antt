@@ -1,5 +1,5 @@
 -- For the contracts of the reader's helpers: what each of them finds at a place, against what is left of the grammar there.
-use Rattle.std.specs.Prelude.{ℕ, zero, suc, ◌+◌, ◌≤◌, ◌<◌, ◌≡◌, true, List, [], ◌∷◌, ◌++◌, length, get_or}
+use Rattle.std.specs.Prelude.{ℕ, zero, suc, ◌+◌, ◌≤◌, ◌<◌, ◌≡◌, true, List, [], ◌∷◌, ◌++◌, length, get_or, Result, Ok, Err}
 use Prim.Native.Char.{code}
 use Rattle.grammar.specs.Grammar.{Part, Grammar, empty, nest, just}
 use Rattle.grammar.specs.helpers.Derivative.{live, then}
@@ -12,10 +12,10 @@ use Rattle.grammar.specs.helpers.Scans.{from}
 use Rattle.octets.specs.Bytes.{blank?}
 use Rattle.scans.specs.helpers.Runs.{run_end}
 use Rattle.products.specs.declared.Products.{Products}
-use Rattle.products.specs.declared.Comment.{Comment}
-use Rattle.products.specs.declared.Comment.TheVariants as C
+use Rattle.octets.specs.declared.Refusal.{Refusal}
+use Rattle.octets.specs.Reading.{number_of, place_of}
+use Rattle.products.specs.declared.Closed.{Closed}
 use Rattle.products.specs.declared.Item.{Item}
-use Rattle.products.specs.declared.Item.TheVariants as I
 use Rattle.products.specs.Counting.{Name, opened, closed, levels, product_count, outermost, deepest}
 use Rattle.products.specs.Grammar.{content, products, level_limit, value, rules}
 
@@ -70,9 +70,9 @@ module _ (s : List ℕ) where
     pub inside : e ≤ length s
     pub reads : (n : ℕ) (p : Place n a) → entered i n a p ≡ from rules s (ahead (p.parts ++ parts) (within p.next n)) e
 
-  abbrev pub CommentAt : (i a : ℕ) → Comment → Type 0
-  CommentAt i a (C.Closed e h) = CommentRead i a e h
-  CommentAt i a (C.Refused x) = (n : ℕ) (p : Place n a) → entered i n a p ≡ refused x.number x.place
+  abbrev pub CommentAt : (i a : ℕ) → Result Closed Refusal → Type 0
+  CommentAt i a (Ok c) = CommentRead i a c.end c.levels
+  CommentAt i a (Err r) = (n : ℕ) (p : Place n a) → entered i n a p ≡ refused (number_of r) (place_of r)
 
   -- between i and e, where at least one level is open, stands what a comment may hold
   pub record Passed (i a e h : ℕ) : Type 0 where
@@ -95,9 +95,9 @@ module _ (s : List ℕ) where
   RefusedWithin i a number place =
       (n : ℕ) (p : Place (suc n) a) → from rules s (ahead p.parts (within p.next (suc n))) i ≡ refused number place
 
-  abbrev pub ContentAt : (i a : ℕ) → Comment → Type 0
-  ContentAt i a (C.Closed e h) = ContentRead i a e h
-  ContentAt i a (C.Refused x) = RefusedWithin i a x.number x.place
+  abbrev pub ContentAt : (i a : ℕ) → Result Closed Refusal → Type 0
+  ContentAt i a (Ok c) = ContentRead i a c.end c.levels
+  ContentAt i a (Err r) = RefusedWithin i a (number_of r) (place_of r)
 
   -- at i stands neither a `(` nor a `)`
   pub record Inside (i : ℕ) : Type 0 where
@@ -112,9 +112,9 @@ module _ (s : List ℕ) where
     pub reads : (n a : ℕ) (p : Place (suc n) a)
         → from rules s (ahead p.parts (within p.next (suc n))) i ≡ from rules s (ahead p.parts (within p.next (suc n))) e
 
-  abbrev pub PlainAt : ℕ → Comment → Type 0
-  PlainAt i (C.Closed e h) = PlainRead i e
-  PlainAt i (C.Refused x) = (a : ℕ) → RefusedWithin i a x.number x.place
+  abbrev pub PlainAt : ℕ → Result ℕ Refusal → Type 0
+  PlainAt i (Ok e) = PlainRead i e
+  PlainAt i (Err r) = (a : ℕ) → RefusedWithin i a (number_of r) (place_of r)
 
   -- ## Items
 
@@ -141,6 +141,6 @@ module _ (s : List ℕ) where
     pub ends : length s ≤ e → header rules s ≡ G.value f
     pub goes_on : e < length s → Found (run_end blank? s e) f
 
-  abbrev pub ItemAt : ℕ → Item → Type 0
-  ItemAt i (I.Read e f) = ItemRead i e f
-  ItemAt i (I.Refused x) = header rules s ≡ refused x.number x.place
+  abbrev pub ItemAt : ℕ → Result Item Refusal → Type 0
+  ItemAt i (Ok x) = ItemRead i x.end x.found
+  ItemAt i (Err r) = header rules s ≡ refused (number_of r) (place_of r)
