@@ -11,20 +11,18 @@
 #![tactic(auto)]
 
 ghost use Rattle.std.specs.Prelude.{◌≡◌};
-ghost use Rattle.grammar.specs.Comparing.{outcome, refused_at};
+ghost use Rattle.grammar.specs.Comparing.{refused_at};
 ghost use Rattle.octets.specs.Comparing.{comparison};
-ghost use Rattle.octets.specs.Writing.{written};
-ghost use Rattle.chunked.specs.Verdict.{verdict};
-ghost use Rattle.ffi.specs.Fields.{same_fields};
-ghost use Rattle.ffi.specs.Fields.{written_fields};
-ghost use Rattle.ffi.specs.Fields.{body_fields};
+ghost use Rattle.octets.specs.Reading.{number_of, place_of, verdict};
+ghost use Rattle.chunked.specs.Verdict.{verdict as framed};
+ghost use Rattle.ffi.specs.Fields.{same_fields, written_fields, body_fields};
 
 use chunked::Answer;
-use octets::{Refusal, Written};
+use octets::{PairRefusal, Refusal};
 
 // Whether two inputs are equal, or match.
 #[repr(C)]
-#[derive(Clone, Copy)]
+#[derive(Clone, Copy, Default)]
 pub struct QzSame {
     pub number: u8,
     pub place: usize,
@@ -35,7 +33,7 @@ pub struct QzSame {
 
 // What a writer did.
 #[repr(C)]
-#[derive(Clone, Copy)]
+#[derive(Clone, Copy, Default)]
 pub struct QzWritten {
     pub number: u8,
     pub place: usize,
@@ -52,7 +50,7 @@ pub const REFUSED: u8 = 2;
 
 // What the reader of chunked bodies answers.
 #[repr(C)]
-#[derive(Clone, Copy)]
+#[derive(Clone, Copy, Default)]
 pub struct QzBody {
     // QZ_WHOLE, QZ_MORE or QZ_REFUSED
     pub state: u8,
@@ -67,91 +65,77 @@ pub struct QzBody {
     pub trailer_length: usize,
 }
 
-// Two inputs that were read.
-fn compared(same: bool) -> QzSame
-    ensures { result ≡ same_fields (outcome same) }
-{
-    QzSame {
-        number: 0,
-        place: 0,
-        which: 0,
-        same,
+// A comparison, as C sees it.
+impl From<Result<bool, PairRefusal>> for QzSame {
+    ghost from_gives = { λ c same. same ≡ same_fields (comparison c) };
+
+    fn from(c: Result<bool, PairRefusal>) -> QzSame {
+        match c {
+            Ok(same) => QzSame {
+                same,
+                ..QzSame::default()
+            },
+            Err(PairRefusal::First(r)) => one_refused(1, r),
+            Err(PairRefusal::Second(r)) => one_refused(2, r),
+        }
     }
 }
 
 // The first or the second input was refused.
 fn one_refused(which: u8, r: Refusal) -> QzSame
-    ensures { result ≡ same_fields (refused_at which r.number r.place) }
+    ensures { result ≡ same_fields (refused_at which (number_of r) (place_of r)) }
 {
     QzSame {
-        number: r.number,
-        place: r.place,
+        number: r.number(),
+        place: r.place(),
         which,
-        same: false,
-    }
-}
-
-// A comparison, as C sees it.
-pub fn same_of(c: octets::Compared) -> QzSame
-    ensures { result ≡ same_fields (comparison c) }
-{
-    match c {
-        octets::Compared::Same => compared(true),
-        octets::Compared::Different => compared(false),
-        octets::Compared::FirstRefused(r) => one_refused(1, r),
-        octets::Compared::SecondRefused(r) => one_refused(2, r),
+        ..QzSame::default()
     }
 }
 
 // A writer's answer, as C sees it.
-pub fn written_fields(w: Written) -> QzWritten
-    ensures { result ≡ written_fields (written w) }
-{
-    match w {
-        Written::Length(n) => QzWritten {
-            number: 0,
-            place: 0,
-            length: n,
-        },
-        Written::Refused(r) => QzWritten {
-            number: r.number,
-            place: r.place,
-            length: 0,
-        },
+impl From<Result<usize, Refusal>> for QzWritten {
+    ghost from_gives = { λ w written. written ≡ written_fields (verdict w) };
+
+    fn from(w: Result<usize, Refusal>) -> QzWritten {
+        match w {
+            Ok(n) => QzWritten {
+                length: n,
+                ..QzWritten::default()
+            },
+            Err(r) => QzWritten {
+                number: r.number(),
+                place: r.place(),
+                ..QzWritten::default()
+            },
+        }
     }
 }
 
 // The answer of a reader of bodies, as C sees it.
-pub fn body_of(a: Answer) -> QzBody
-    ensures { result ≡ body_fields (verdict a) }
-{
-    match a {
-        Answer::Whole(body) => QzBody {
-            state: WHOLE,
-            number: 0,
-            place: 0,
-            taken: body.taken,
-            length: body.length,
-            trailer_start: body.trailer_start,
-            trailer_length: body.trailer_length,
-        },
-        Answer::More => QzBody {
-            state: MORE,
-            number: 0,
-            place: 0,
-            taken: 0,
-            length: 0,
-            trailer_start: 0,
-            trailer_length: 0,
-        },
-        Answer::Refused(r) => QzBody {
-            state: REFUSED,
-            number: r.number,
-            place: r.place,
-            taken: 0,
-            length: 0,
-            trailer_start: 0,
-            trailer_length: 0,
-        },
+impl From<Answer> for QzBody {
+    ghost from_gives = { λ a body. body ≡ body_fields (framed a) };
+
+    fn from(a: Answer) -> QzBody {
+        match a {
+            Answer::Whole(body) => QzBody {
+                state: WHOLE,
+                taken: body.taken,
+                length: body.length,
+                trailer_start: body.trailer_start,
+                trailer_length: body.trailer_length,
+                ..QzBody::default()
+            },
+            Answer::More => QzBody {
+                state: MORE,
+                ..QzBody::default()
+            },
+            Answer::Refused(r) => QzBody {
+                state: REFUSED,
+                number: r.number(),
+                place: r.place(),
+                ..QzBody::default()
+            },
+        }
     }
 }
