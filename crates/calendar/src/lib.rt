@@ -206,7 +206,7 @@ pub fn locate(f: Fields) -> Option<Instant>
 }
 
 // The second of an instant's day.
-fn second_of(seconds: i64) -> u32
+fn second_in_day(seconds: i64) -> u32
     requires { in_range? seconds ≡ true }
     ensures { result ≡ since_first seconds % 86400 }
 {
@@ -221,7 +221,7 @@ pub fn fields_at(seconds: i64) -> Option<Moment>
     }
     let day = Day::of_instant(seconds);
     Some(Moment {
-        fields: day.fields(second_of(seconds)),
+        fields: day.fields(second_in_day(seconds)),
         weekday: day.weekday(),
     })
 }

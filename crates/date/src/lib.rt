@@ -10,7 +10,8 @@ ghost use Rattle.date.specs.Grammar.{rfc1123, asctime, rules};
 ghost use Rattle.octets.specs.Reading.{verdict};
 ghost use Rattle.date.specs.Reading.{reading};
 ghost use Rattle.date.specs.Names.{first_name};
-ghost use Rattle.date.specs.helpers.Scan.{Goes, AfterDay, AtRfc850, rfc850_head, month_then, numbered, judged, year_from, YearInside, Ending};
+ghost use Rattle.date.specs.helpers.Scan.{Goes, AfterDay, AtRfc850, Ending, YearInside, year_from};
+ghost use Rattle.date.specs.helpers.Scan.{rfc850_head, numbered, month_then, judged};
 ghost use Rattle.octets.specs.helpers.Shapes.{stands_for, fitting};
 ghost use Rattle.date.specs.helpers.Shapes.{longest};
 

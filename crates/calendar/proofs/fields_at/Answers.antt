@@ -25,5 +25,5 @@ pub returns : goal.returns
 returns c =
     let s = to_z-of_z c.ranges.seconds in
     inside c.args.seconds (in_range ((goal.at.returns c).Else-not-contains)) _ _ _ _
-    (c.of_instant-day.ensures ∙ ap (λ (z : ℤ). since_first z / 86400) s) (c.second_of.ensures ∙ ap (λ (z : ℤ). since_first z % 86400) s)
+    (c.of_instant-day.ensures ∙ ap (λ (z : ℤ). since_first z / 86400) s) (c.second_in_day.ensures ∙ ap (λ (z : ℤ). since_first z % 86400) s)
     c.fields.ensures c.weekday.ensures
