@@ -48,6 +48,7 @@ fn read_subtags(s: &[u8], primary_length: usize) -> Result<Tag, Refusal>
     ensures { verdict result ≡ header rules s.now }
 {
     let mut parts = 1;
+    // a cursor: each part has its own length
     let mut at = primary_length;
     while at < s.len() {
         if s[at] != b'-' {

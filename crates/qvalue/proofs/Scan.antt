@@ -14,7 +14,7 @@ use Rattle.grammar.specs.helpers.Checks.{ahead}
 use Rattle.grammar.specs.helpers.Judge.{header}
 use Rattle.grammar.specs.helpers.Scans.{slice, from}
 use Rattle.grammar.proofs.Loop.{header-short, judge-end}
-use Rattle.grammar.proofs.Scans.{Run, goes_on, stops_at, ends-early, ends-well, goes_too_far}
+use Rattle.grammar.proofs.Scans.{Run, goes_on, stops_at, ends-well, goes_too_far}
 use Rattle.grammar.proofs.Repeats.{run_short, run-cut, part-up-to}
 use Rattle.octets.specs.Bytes.{digit?}
 use Rattle.octets.specs.Classes.{DIGIT}
@@ -62,13 +62,7 @@ four-digits w a b d = ap (λ (n : ℕ). ((n * 10 + (a - 48)) * 10 + (b - 48)) * 
 -- ## The first digit
 
 module _ (s : List ℕ) (short : length s ≤ 8192) where
-  pub whole-none : length s ≡ 0 → header rules s ≡ refused 1 0
-  whole-none h = header-short rules s short ∙ ends-early rules s [] qvalue 0 (omega arith) refl
-
   module _ (at : 0 < length s) where
-    pub whole-not : (get_or s 0 0 ≡ 48 → ⊥) → (get_or s 0 0 ≡ 49 → ⊥) → header rules s ≡ refused 1 0
-    whole-not x y = header-short rules s short ∙ stops_at rules s [] qvalue 0 at (rw (ne_eqb (get_or s 0 0) 48 x, ne_eqb (get_or s 0 0) 49 y))
-
     pub zero-whole : get_or s 0 0 ≡ 48 → AfterWhole s 0 (0x3ff000000000000 ∷ 0 ∷ 0 ∷ 0 ∷ [])
     zero-whole h = record {
       class = DIGIT;

@@ -1,7 +1,7 @@
 -- The table that is filled, and the whole answer.
 use Prim.Native.Nat.{ℕ, ◌+◌, ◌-◌, ◌≤◌, ◌<◌}
 use native.Mathlib.Omega.{arith}
-use borrow.Author.Tests.{lt-ltb, le-ltb, lt-leb, le-leb}
+use borrow.Author.Tests.{lt-ltb, le-ltb, le-leb}
 use mathlib.Core.Path.{◌≡◌, sym, ap, ap₂, subst, ◌∙◌}
 use mathlib.Core.Bool.{Bool, true, false, cond}
 use mathlib.Core.List.{List, [], ◌∷◌, ◌++◌, append-nil, append_assoc}
@@ -9,9 +9,8 @@ use lib.Dec.{ltb}
 use lib.ListN.{length, take, set, length-append}
 use Rattle.std.specs.Prelude.{Some, None, Ok, Err}
 use Rattle.grammar.specs.Grammar.{Grammar}
-use Rattle.grammar.specs.Reading.{value_limit, value, refused}
+use Rattle.grammar.specs.Reading.{value, refused}
 use Rattle.grammar.specs.helpers.Judge.{header}
-use Rattle.grammar.proofs.Loop.{header-long}
 use Rattle.octets.specs.Numbers.{length_limit}
 use Rattle.octets.specs.Reading.{number_of, place_of}
 use Rattle.octets.specs.declared.Refusal.{Refusal}
@@ -148,13 +147,6 @@ module _ {n : ℕ} {s : List ℕ} {t : List Range} {count seen i : ℕ} (w : Fil
 
 pub refused-answer : (n : ℕ) (s : List ℕ) (r : Refusal) → reading n s ≡ refused (number_of r) (place_of r) → Answered n s (Err r)
 refused-answer n s r e = (sym e, sym (ap table_of e))
-
--- the argument; then the length of the value
-pub length-refused : (n : ℕ) (s : List ℕ) → length_limit < n → reading n s ≡ refused 9 0
-length-refused n s h = rw (lt-leb n length_limit h)
-
-pub long-refused : (n : ℕ) (s : List ℕ) → n ≤ length_limit → value_limit < length s → reading n s ≡ refused 13 value_limit
-long-refused n s small h = rw (le-leb n length_limit small) (header-long (rules n s) s h)
 
 -- a step that stopped has the answer
 pub refused-found : (n : ℕ) (s : List ℕ) (r : Refusal) → n ≤ length_limit → header (rules n s) s ≡ refused (number_of r) (place_of r)

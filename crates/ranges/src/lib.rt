@@ -99,6 +99,7 @@ fn read_elements(s: &[u8], entity_length: u64) -> Result<Option<Ranges>, Refusal
     let mut entries = [UNUSED; ELEMENT_LIMIT];
     let mut count = 0;
     let mut elements = 0;
+    // a cursor: each element has its own length
     let mut at = UNIT_LEN;
     while at < s.len() {
         let Step { element, end } = read_next(s, elements, at)?;

@@ -49,6 +49,7 @@ pub fn token_end(s: &[u8], from: usize) -> usize
 fn letters_end(s: &[u8], from: usize) -> usize
     ensures { run_end token? s.now result ≡ run_end token? s.now from }
 {
+    // a cursor: it steps by blocks
     let mut i = from;
     while i < s.len() && s.len() - i >= BLOCK && are_letters(&s[i..i + BLOCK]) {
         i += BLOCK;
@@ -145,6 +146,7 @@ pub fn read_decimal(s: &[u8], from: usize, limit: u64) -> Decimal
 pub fn quoted_end(s: &[u8], from: usize) -> usize
     ensures { result ≡ quoted_end s.now from }
 {
+    // a cursor: text and pairs have their own lengths
     let mut i = from;
     loop {
         let end = text_end(s, i);
