@@ -9,7 +9,9 @@ use Rattle.grammar.specs.helpers.Judge.{header}
 use Rattle.octets.proofs.Entries.{padded-take, padded-set}
 use Rattle.media.specs.declared.MediaType.{MediaType}
 use Rattle.media.specs.declared.Parameter.{Parameter}
-use Rattle.media.specs.declared.Outcome.TheVariants as O
+use Rattle.std.specs.Prelude.{Ok, Err}
+use Rattle.octets.specs.declared.Refusal.{Refusal}
+use Rattle.octets.specs.Reading.{number_of, place_of}
 use Rattle.media.specs.Grammar.{entries, kind, rules, parameter_limit}
 use Rattle.media.specs.Reading.{unused, filled, table_of, Answered}
 use Rattle.media.specs.helpers.Scan.{counted, Found, Read}
@@ -52,12 +54,11 @@ module _ {s : List ℕ} {m : MediaType} {t : List Parameter} {i : ℕ} (w : Fill
   names-are : kind w.found.before.first w.found.before.second (length (entries w.found.before.others)) ≡ m
   names-are = ap (λ (ps : List Parameter). kind w.found.before.first w.found.before.second (length ps)) others-are ∙ w.found.before.kinds
 
-  pub filled-answer : length s ≤ i → Answered s (record { outcome = O.Read m; parameters = t })
+  pub filled-answer : length s ≤ i → Answered s (Ok (record { names = m; parameters = t }))
   filled-answer h =
       let e : header rules s ≡ value (record { names = m; table = w.table }) =
       no_more w.found h ∙ ap₂ (λ (n : MediaType) (ps : List Parameter). value (record { names = n; table = ps })) names-are others-are in
       (ap (λ (ps : List Parameter). value (record { names = m; table = ps })) entries-are ∙ sym e, w.is ∙ sym (ap table_of e))
 
-pub refused-answer : (s : List ℕ) {n p : ℕ} → header rules s ≡ refused n p
-    → Answered s (record { outcome = O.Refused (record { number = n; place = p }); parameters = filled [] })
-refused-answer s e = (sym e, sym (ap table_of e))
+pub refused-answer : (s : List ℕ) (r : Refusal) → header rules s ≡ refused (number_of r) (place_of r) → Answered s (Err r)
+refused-answer s r e = (sym e, sym (ap table_of e))

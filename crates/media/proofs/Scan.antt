@@ -30,8 +30,8 @@ use Rattle.scans.proofs.Runs.{run_is}
 use Rattle.scans.proofs.Quoted.{quoted_closed, quoted_bad, quoted_cut_off}
 use Rattle.media.specs.declared.MediaType.{MediaType}
 use Rattle.media.specs.declared.Parameter.{Parameter}
-use Rattle.media.specs.declared.Step.{Step}
-use Rattle.media.specs.declared.Step.TheVariants.{Passed, Stopped}
+use Rattle.std.specs.Prelude.{Result, Ok, Err}
+use Rattle.octets.specs.declared.Refusal.{Refusal}
 use Rattle.media.specs.Grammar.{Name, type, subtype, attribute, value, quoted_value, SLASH}
 use Rattle.media.specs.Grammar.{SEMICOLON, EQUALS, blanks, argument, parameters, attributes}
 use Rattle.media.specs.Grammar.{attribute?, quoted?, has_name, repeats, limit, parameter_limit, entry, entries, kind, rules}
@@ -211,9 +211,9 @@ module _ (s : List ℕ) (short : length s ≤ 8192) where
 -- ## A parameter
 
 -- a step from e is one from an earlier place
-pub steps_on : (s : List ℕ) (m : MediaType) (ps : List Parameter) (i e : ℕ) (r : Step) → i ≤ e → StepAt s m ps e r → StepAt s m ps i r
-steps_on s m ps i e (Passed p f) a w = record { found = w.found; room = w.room; forward = omega (arith, w.forward) }
-steps_on s m ps i e (Stopped x) a w = w
+pub steps_on : (s : List ℕ) (m : MediaType) (ps : List Parameter) (i e : ℕ) (r : Result (Parameter × ℕ) Refusal) → i ≤ e → StepAt s m ps e r → StepAt s m ps i r
+steps_on s m ps i e (Ok v) a w = record { found = w.found; room = w.room; forward = omega (arith, w.forward) }
+steps_on s m ps i e (Err x) a w = w
 
 module _ {s : List ℕ} where
   attribute-count : {m : MediaType} {ps : List Parameter} {i : ℕ} (w : Before s m ps i) → length (attributes (parts s w)) ≡ length ps

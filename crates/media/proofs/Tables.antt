@@ -2,8 +2,9 @@
 use Prim.Native.Nat.{ℕ, zero, suc, ◌+◌, ◌≤◌, ◌<◌}
 use native.Mathlib.Omega.{arith}
 use native.Mathlib.Numerals.{add-one}
-use mathlib.Core.Path.{◌≡◌, sym, ap₂, subst, ◌∙◌}
-use mathlib.Core.Bool.{Bool, true, false}
+use mathlib.Core.Path.{◌≡◌, refl, sym, ap, ap₂, subst, ◌∙◌}
+use Rattle.std.specs.List.{list_any}
+use mathlib.Core.Bool.{Bool, true, false, ◌||◌}
 use mathlib.Core.List.{List, [], ◌∷◌}
 use lib.ListN.{length, take, drop, get_or, drop_of_length-le}
 use lib.Seq.{drop-cons, get_or-take}
@@ -50,3 +51,8 @@ module _ {s : List ℕ} {n : ℕ} {u : List Parameter} (w : PlacedTable s n u) (
 
       pub not_named : t ≡ false → has_name name (names_at s behind) ≡ has_name name (names_at s left)
       not_named f = sym (rw (first, sym e ∙ f))
+
+-- a name among those at their places
+pub any-named : (s name : List ℕ) (ps : List Parameter) → list_any (λ p. alike name (part_at s p.start p.length)) ps ≡ has_name name (names_at s ps)
+any-named s name [] = refl
+any-named s name (p ∷ ps) = ap (λ (t : Bool). alike name (part_at s p.start p.length) || t) (any-named s name ps)

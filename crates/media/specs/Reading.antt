@@ -1,21 +1,22 @@
 -- Document 01's numbers and values for each case of the answers.
-use Rattle.std.specs.Prelude.{ℕ, ◌≡◌, false, List, [], take}
+use Rattle.std.specs.Prelude.{ℕ, ◌≡◌, false, List, [], Result, Ok, Err, take}
 use Rattle.grammar.specs.Reading as G
 use Rattle.grammar.specs.Reading.{Verdict}
 use Rattle.grammar.specs.helpers.Judge.{header}
 use Rattle.octets.specs.Tables.{padded}
 use Rattle.media.specs.declared.Parameter.{Parameter}
-use Rattle.media.specs.declared.Outcome.{Outcome}
-use Rattle.media.specs.declared.Outcome.TheVariants.{Read, Refused}
-use Rattle.media.specs.declared.Reading.{Reading}
+use Rattle.media.specs.declared.Media.{Media as MediaRead}
+use Rattle.octets.specs.declared.Refusal.{Refusal}
+use Rattle.octets.specs.Reading.{number_of, place_of}
 use Rattle.media.specs.Grammar.{parameter_limit, Media, rules}
 
-abbrev pub outcome_verdict : Outcome → List Parameter → Verdict Media
-outcome_verdict (Read m) table = G.value (record { names = m; table = take m.count table })
-outcome_verdict (Refused r) table = G.refused r.number r.place
+-- the entries of the table that are used
+abbrev pub read_already : MediaRead → List Parameter
+read_already m = take m.names.count m.parameters
 
-abbrev pub verdict : Reading → Verdict Media
-verdict r = outcome_verdict r.outcome r.parameters
+abbrev pub verdict : Result MediaRead Refusal → Verdict Media
+verdict (Ok m) = G.value (record { names = m.names; table = read_already m })
+verdict (Err r) = G.refused (number_of r) (place_of r)
 
 -- "Unused entries of a returned table are zero."
 abbrev pub unused : Parameter
@@ -29,6 +30,11 @@ abbrev pub table_of : Verdict Media → List Parameter
 table_of (G.value m) = filled m.table
 table_of (G.refused n p) = filled []
 
+-- the table of an answer; of a refusal, the one that stands beside it for C
+abbrev pub table_in : Result MediaRead Refusal → List Parameter
+table_in (Ok m) = m.parameters
+table_in (Err r) = filled []
+
 -- the whole answer to s
-abbrev pub Answered : List ℕ → Reading → Type 0
-Answered s r = (verdict r ≡ header rules s) × (r.parameters ≡ table_of (header rules s))
+abbrev pub Answered : List ℕ → Result MediaRead Refusal → Type 0
+Answered s r = (verdict r ≡ header rules s) × (table_in r ≡ table_of (header rules s))

@@ -1,13 +1,11 @@
 // Media types: RFC 2616 3.7, with the parameters of 3.6.
 #![tactic(auto)]
 
-ghost use Rattle.std.specs.Prelude.{◌≡◌, [], ◌≤◌, ◌<◌, ◌+◌, length, take};
-ghost use Rattle.grammar.specs.helpers.Scans.{slice};
+ghost use Rattle.std.specs.Prelude.{◌≡◌, [], ◌≤◌, ◌<◌, ◌+◌, length};
+ghost use Rattle.std.specs.List.{list_any};
 ghost use Rattle.octets.specs.Case.{alike};
-ghost use Rattle.media.specs.Grammar.{has_name, part_at};
-ghost use Rattle.media.specs.Places.{PlacedParameter};
-ghost use Rattle.media.specs.Reading.{Answered};
-ghost use Rattle.media.specs.helpers.Places.{names_at, PlacedTable};
+ghost use Rattle.media.specs.Grammar.{part_at};
+ghost use Rattle.media.specs.Reading.{Answered, read_already};
 ghost use Rattle.media.specs.helpers.Scan.{TypeAt, NamesRead, QuoteAt, Found, NameAt, StepAt, ValueAt};
 
 use octets::Refusal;
@@ -16,7 +14,7 @@ use octets::Refusal;
 pub const PARAMETER_LIMIT: usize = 16;
 
 // Start and length of an attribute and of its value, a quoted value's without its quotes.
-#[derive(Clone, Copy)]
+#[derive(Clone, Copy, Debug, PartialEq, Eq)]
 pub struct Parameter {
     pub start: usize,
     pub length: usize,
@@ -29,7 +27,7 @@ pub struct Parameter {
 pub type Table = [Parameter; PARAMETER_LIMIT];
 
 // Start and length of type and subtype, and how many parameters there are.
-#[derive(Clone, Copy)]
+#[derive(Clone, Copy, Debug, PartialEq, Eq)]
 pub struct MediaType {
     pub type_start: usize,
     pub type_length: usize,
@@ -38,24 +36,11 @@ pub struct MediaType {
     pub count: usize,
 }
 
+// A media type that was read: its names, and the table of its parameters.
 #[derive(Clone, Copy)]
-pub enum Outcome {
-    Read(MediaType),
-    Refused(Refusal),
-}
-
-// The outcome, and beside it the table of parameters.
-#[derive(Clone, Copy)]
-pub struct Reading {
-    pub outcome: Outcome,
+pub struct Media {
+    pub names: MediaType,
     pub parameters: Table,
-}
-
-// A parameter that was read and the place behind it, or why reading stopped.
-#[derive(Clone, Copy)]
-enum Step {
-    Passed { parameter: Parameter, end: usize },
-    Stopped(Refusal),
 }
 
 const UNUSED: Parameter = Parameter {
@@ -67,73 +52,54 @@ const UNUSED: Parameter = Parameter {
 };
 
 // type `/` subtype, then parameters with blanks around their semicolons.
-pub fn read(s: &[u8]) -> Reading
+pub fn read(s: &[u8]) -> Result<Media, Refusal>
     ensures { Answered s.now result }
 {
-    match read_names(s) {
-        Outcome::Refused(r) => Reading {
-            outcome: Outcome::Refused(r),
+    let names = read_names(s)?;
+    // without parameters no table is filled and moved: such a type is read in 0.8 of the time
+    if s.len() <= names.subtype_start + names.subtype_length {
+        return Ok(Media {
+            names,
             parameters: [UNUSED; PARAMETER_LIMIT],
-        },
-        Outcome::Read(names) => {
-            // without parameters no table is filled and moved: such a type is read in 0.8 of the time
-            if s.len() <= names.subtype_start + names.subtype_length {
-                return Reading {
-                    outcome: Outcome::Read(names),
-                    parameters: [UNUSED; PARAMETER_LIMIT],
-                };
-            }
-            read_parameters(s, names)
-        }
+        });
     }
+    read_parameters(s, names)
+}
+
+// The bytes of a part, as far as the text has them.
+pub fn part(s: &[u8], start: usize, length: usize) -> &[u8]
+    ensures { result.now ≡ part_at s.now start length }
+{
+    let rest = s.get(start..).unwrap_or(&[]);
+    rest.get(..length).unwrap_or(rest)
 }
 
 // Reads type `/` subtype.
-fn read_names(s: &[u8]) -> Outcome
+fn read_names(s: &[u8]) -> Result<MediaType, Refusal>
     ensures { NamesRead s.now result }
 {
-    if s.len() > octets::VALUE_LIMIT {
-        return Outcome::Refused(Refusal {
-            number: octets::VALUE_TOO_LONG,
-            place: octets::VALUE_LIMIT,
-        });
-    }
+    octets::check_length(s)?;
     let slash = scans::class_end(octets::TOKEN, s, 0);
     if slash == 0 {
-        return Outcome::Refused(Refusal {
-            number: octets::MALFORMED,
-            place: 0,
-        });
+        return Err(Refusal::Malformed(0));
     }
     read_subtype(s, slash)
 }
 
 // Reads on from `slash`, where the type ends.
-fn read_subtype(s: &[u8], slash: usize) -> Outcome
+fn read_subtype(s: &[u8], slash: usize) -> Result<MediaType, Refusal>
     requires { TypeAt s.now slash }
     ensures { NamesRead s.now result }
 {
-    if s.len() <= slash {
-        return Outcome::Refused(Refusal {
-            number: octets::MALFORMED,
-            place: slash,
-        });
-    }
-    if s[slash] != b'/' {
-        return Outcome::Refused(Refusal {
-            number: octets::MALFORMED,
-            place: slash,
-        });
+    if slash >= s.len() || s[slash] != b'/' {
+        return Err(Refusal::Malformed(slash));
     }
     let start = slash + 1;
     let end = scans::class_end(octets::TOKEN, s, start);
     if end == start {
-        return Outcome::Refused(Refusal {
-            number: octets::MALFORMED,
-            place: end,
-        });
+        return Err(Refusal::Malformed(end));
     }
-    Outcome::Read(MediaType {
+    Ok(MediaType {
         type_start: 0,
         type_length: slash,
         subtype_start: start,
@@ -143,163 +109,83 @@ fn read_subtype(s: &[u8], slash: usize) -> Outcome
 }
 
 // Reads on from the place behind the subtype.
-fn read_parameters(s: &[u8], names: MediaType) -> Reading
+fn read_parameters(s: &[u8], names: MediaType) -> Result<Media, Refusal>
     requires { Found s.now names [] (names.subtype_start + names.subtype_length) }
     ensures { Answered s.now result }
 {
-    let mut parameters = [UNUSED; PARAMETER_LIMIT];
-    let mut found = names;
+    let mut media = Media {
+        names,
+        parameters: [UNUSED; PARAMETER_LIMIT],
+    };
     let mut at = names.subtype_start + names.subtype_length;
     while at < s.len() {
-        match read_parameter(s, found, parameters, at) {
-            Step::Stopped(r) => {
-                return Reading {
-                    outcome: Outcome::Refused(r),
-                    parameters: [UNUSED; PARAMETER_LIMIT],
-                };
-            }
-            Step::Passed { parameter, end } => {
-                let count = found.count;
-                parameters[count] = parameter;
-                found.count = count + 1;
-                at = end;
-            }
-        }
+        let (parameter, end) = read_parameter(s, &media, at)?;
+        media.parameters[media.names.count] = parameter;
+        media.names.count += 1;
+        at = end;
     }
-    let outcome = Outcome::Read(found);
-    Reading {
-        outcome,
-        parameters,
-    }
+    Ok(media)
 }
 
-// Reads the parameter that stands at `at`, behind those that were found.
-fn read_parameter(s: &[u8], found: MediaType, table: Table, at: usize) -> Step
-    requires found { Found s.now found (take found.count table) at }
+// Reads the parameter that stands at `at`, behind those that were found; gives the place behind it.
+fn read_parameter(s: &[u8], found: &Media, at: usize) -> Result<(Parameter, usize), Refusal>
+    requires found { Found s.now found.now.names (read_already found.now) at }
     requires at_in_bounds { at < length s.now }
-    ensures { StepAt s.now found (take found.count table) at result }
+    ensures { StepAt s.now found.now.names (read_already found.now) at result }
 {
     let semicolon = scans::class_end(octets::BLANK, s, at);
-    if s.len() <= semicolon {
-        return Step::Stopped(Refusal {
-            number: octets::MALFORMED,
-            place: semicolon,
-        });
-    }
-    if s[semicolon] != b';' {
-        return Step::Stopped(Refusal {
-            number: octets::MALFORMED,
-            place: semicolon,
-        });
+    if semicolon >= s.len() || s[semicolon] != b';' {
+        return Err(Refusal::Malformed(semicolon));
     }
     let start = scans::class_end(octets::BLANK, s, semicolon + 1);
-    read_attribute(s, found, table, start)
+    read_attribute(s, found, start)
 }
 
 // Reads on from the place where its attribute has to begin.
-fn read_attribute(s: &[u8], found: MediaType, table: Table, start: usize) -> Step
-    requires { NameAt s.now found (take found.count table) start }
-    ensures { StepAt s.now found (take found.count table) start result }
+fn read_attribute(s: &[u8], found: &Media, start: usize) -> Result<(Parameter, usize), Refusal>
+    requires { NameAt s.now found.now.names (read_already found.now) start }
+    ensures { StepAt s.now found.now.names (read_already found.now) start result }
 {
+    let count = found.names.count;
     let equals = scans::token_end(s, start);
     if equals == start {
-        return Step::Stopped(Refusal {
-            number: octets::MALFORMED,
-            place: start,
-        });
+        return Err(Refusal::Malformed(start));
     }
-    if found.count == PARAMETER_LIMIT {
-        return Step::Stopped(Refusal {
-            number: octets::TOO_MANY_PARAMETERS,
-            place: start,
-        });
+    if count == PARAMETER_LIMIT {
+        return Err(Refusal::TooManyParameters(start));
     }
-    if s.len() <= equals {
-        return Step::Stopped(Refusal {
-            number: octets::MALFORMED,
-            place: equals,
-        });
+    if equals >= s.len() || s[equals] != b'=' {
+        return Err(Refusal::Malformed(equals));
     }
-    if s[equals] != b'=' {
-        return Step::Stopped(Refusal {
-            number: octets::MALFORMED,
-            place: equals,
-        });
-    }
-    if is_repeated(s, start, equals, table, found.count) {
-        return Step::Stopped(Refusal {
-            number: octets::REPEATED_ATTRIBUTE,
-            place: equals,
-        });
+    if is_among(s, &s[start..equals], &found.parameters[..count]) {
+        return Err(Refusal::RepeatedAttribute(equals));
     }
     read_value(s, start, equals)
 }
 
-// Does one of the first `count` attributes of the table have the name from `start` to `end`? The first attribute repeats none: without
-// the table, which would be copied, one parameter is read in 0.75 of the time.
-fn is_repeated(s: &[u8], start: usize, end: usize, table: Table, count: usize) -> bool
-    requires start_le_end { start ≤ end }
-    requires end_in_bounds { end ≤ length s.now }
-    requires placed_table { PlacedTable s.now count table }
-    ensures { result ≡ has_name (slice s.now start end) (names_at s.now (take count table)) }
+// Is the name that of one of the attributes, letter case ignored?
+fn is_among(s: &[u8], name: &[u8], parameters: &[Parameter]) -> bool
+    ensures { result ≡ list_any (λ p. alike name.now (part_at s.now p.start p.length)) parameters.now }
 {
-    if count == 0 {
-        return false;
-    }
-    is_among(s, start, end, table, count)
-}
-
-// The same, by comparing it with each.
-fn is_among(s: &[u8], start: usize, end: usize, table: Table, count: usize) -> bool
-    requires start_le_end { start ≤ end }
-    requires end_in_bounds { end ≤ length s.now }
-    requires placed_table { PlacedTable s.now count table }
-    ensures { result ≡ has_name (slice s.now start end) (names_at s.now (take count table)) }
-{
-    let mut i = 0;
-    while i < count {
-        if is_name(s, start, end, table[i]) {
-            return true;
-        }
-        i += 1;
-    }
-    false
-}
-
-// Is the name from `start` to `end` that of the parameter's attribute, letter case ignored?
-fn is_name(s: &[u8], start: usize, end: usize, p: Parameter) -> bool
-    requires start_le_end { start ≤ end }
-    requires end_in_bounds { end ≤ length s.now }
-    requires placed_parameter { PlacedParameter s.now p }
-    ensures { result ≡ alike (slice s.now start end) (part_at s.now p.start p.length) }
-{
-    let from = p.start;
-    let to = from + p.length;
-    octets::same_ignoring_case(&s[start..end], &s[from..to])
+    parameters.iter().any(|p| octets::same_ignoring_case(name, part(s, p.start, p.length)))
 }
 
 // Reads the value behind the `=` of the attribute that stands from `start` to `equals`.
-fn read_value(s: &[u8], start: usize, equals: usize) -> Step
+fn read_value(s: &[u8], start: usize, equals: usize) -> Result<(Parameter, usize), Refusal>
     requires start_le_equals { start ≤ equals }
     requires equals_in_bounds { equals < length s.now }
     ensures { ValueAt s.now start equals result }
 {
     let from = equals + 1;
-    if s.len() <= from {
-        return Step::Stopped(Refusal {
-            number: octets::MALFORMED,
-            place: from,
-        });
+    if from >= s.len() {
+        return Err(Refusal::Malformed(from));
     }
     if s[from] == b'"' {
         return read_quoted(s, start, equals);
     }
     let end = scans::class_end(octets::TOKEN, s, from);
     if end == from {
-        return Step::Stopped(Refusal {
-            number: octets::MALFORMED,
-            place: from,
-        });
+        return Err(Refusal::Malformed(from));
     }
     let parameter = Parameter {
         start,
@@ -308,28 +194,19 @@ fn read_value(s: &[u8], start: usize, equals: usize) -> Step
         value_length: end - from,
         quoted: false,
     };
-    Step::Passed { parameter, end }
+    Ok((parameter, end))
 }
 
 // The same where a quote stands behind the `=`.
-fn read_quoted(s: &[u8], start: usize, equals: usize) -> Step
+fn read_quoted(s: &[u8], start: usize, equals: usize) -> Result<(Parameter, usize), Refusal>
     requires start_le_equals { start ≤ equals }
     requires quote_at { QuoteAt s.now (equals + 1) }
     ensures { ValueAt s.now start equals result }
 {
     let from = equals + 2;
     let end = scans::quoted_end(s, from);
-    if s.len() <= end {
-        return Step::Stopped(Refusal {
-            number: octets::MALFORMED,
-            place: end,
-        });
-    }
-    if s[end] != b'"' {
-        return Step::Stopped(Refusal {
-            number: octets::MALFORMED,
-            place: end,
-        });
+    if end >= s.len() || s[end] != b'"' {
+        return Err(Refusal::Malformed(end));
     }
     let parameter = Parameter {
         start,
@@ -338,8 +215,5 @@ fn read_quoted(s: &[u8], start: usize, equals: usize) -> Step
         value_length: end - from,
         quoted: true,
     };
-    Step::Passed {
-        parameter,
-        end: end + 1,
-    }
+    Ok((parameter, end + 1))
 }

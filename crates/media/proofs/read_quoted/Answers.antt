@@ -4,21 +4,18 @@ use mathlib.Core.Path.{sym, ap, ◌∙◌}
 use Rattle.grammar.specs.Reading.{refused}
 use Rattle.media.proofs.Scan.{quote-cut_off, quote-not, quote-read}
 use Rattle.media.proofs.read_quoted.Goals as goal
+use Rattle.media.proofs.read_quoted.Goals.{then-end-s-via-then-end-s, then-end-s-via-else-end-s+then-s-end-ne34}
 
-pub returns-then-s-end : goal.returns-then-s-end
-returns-then-s-end c = λ m ps x.
+pub returns-then-end-s : goal.returns-then-end-s
+returns-then-end-s c = λ m ps x.
     let e = c.quoted_end-end in
-    quote-cut_off x c.requires.quote_at.at c.requires.quote_at.quote (omega (arith, e.ensures, c.if-s-end.true))
-    ∙ ap (refused 1) (sym e.ensures)
-
-pub returns-then-s-end-ne34 : goal.returns-then-s-end-ne34
-returns-then-s-end-ne34 c = λ m ps x.
-    let e = c.quoted_end-end in
-    quote-not x c.requires.quote_at.at c.requires.quote_at.quote (rw (sym e.ensures) c.if-s-end-ne34.true)
-    ∙ ap (refused 1) (sym e.ensures)
+    elim c.then-end-s.branch [
+      | then-end-s-via-then-end-s h ↦ quote-cut_off x c.requires.quote_at.at c.requires.quote_at.quote (omega (arith, e.ensures, h.if-end-s.true)) ∙ ap (refused 1) (sym e.ensures)
+      | then-end-s-via-else-end-s+then-s-end-ne34 h ↦ quote-not x c.requires.quote_at.at c.requires.quote_at.quote (rw (sym e.ensures) h.if-s-end-ne34.true) ∙ ap (refused 1) (sym e.ensures)
+    ]
 
 pub returns : goal.returns
 returns c = λ m ps x.
     let e = c.quoted_end-end in
-    quote-read x c.requires.quote_at.at c.requires.quote_at.quote e.result e.ensures c.if-s-end.false
+    quote-read x c.requires.quote_at.at c.requires.quote_at.quote e.result e.ensures c.if-end-s.false
     c.if-s-end-ne34.false

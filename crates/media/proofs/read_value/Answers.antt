@@ -6,13 +6,13 @@ use Rattle.octets.proofs.Tables.{token-bits}
 use Rattle.media.proofs.Scan.{value-cut_off, token-none, token-read}
 use Rattle.media.proofs.read_value.Goals as goal
 
-pub returns-then-s-from : goal.returns-then-s-from
-returns-then-s-from c = λ m ps x. value-cut_off x c.if-s-from.true
+pub returns-then-from-s : goal.returns-then-from-s
+returns-then-from-s c = λ m ps x. value-cut_off x c.if-from-s.true
 
 pub returns-then-end-from : goal.returns-then-end-from
 returns-then-end-from c = λ m ps x.
     let e = c.class_end-end.ensures token? token-bits in
-    token-none x c.if-s-from.false c.if-s-from-eq34.false
+    token-none x c.if-from-s.false c.if-s-from-eq34.false
     (sym e ∙ c.if-end-from.true)
 
 pub overflow_sub-parameter-2 : goal.overflow_sub-parameter-2
@@ -21,5 +21,5 @@ overflow_sub-parameter-2 c = omega (arith, c.class_end-end.ensures token? token-
 pub returns : goal.returns
 returns c = λ m ps x.
     let e = c.class_end-end in
-    token-read x c.if-s-from.false c.if-s-from-eq34.false
+    token-read x c.if-from-s.false c.if-s-from-eq34.false
     e.result (e.ensures token? token-bits) c.if-end-from.false

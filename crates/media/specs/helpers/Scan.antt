@@ -1,5 +1,5 @@
 -- For the contracts of the reader's helpers.
-use Rattle.std.specs.Prelude.{ℕ, ◌+◌, ◌≤◌, ◌<◌, ◌≡◌, false, List, [], ◌∷◌, ◌++◌, length, get_or}
+use Rattle.std.specs.Prelude.{ℕ, ◌+◌, ◌≤◌, ◌<◌, ◌≡◌, false, List, [], ◌∷◌, ◌++◌, Result, Ok, Err, length, get_or}
 use Prim.Native.Char.{code}
 use Rattle.grammar.specs.Grammar.{Part, byte, ◌⨾◌, part}
 use Rattle.grammar.specs.Reading.{value_limit, refused}
@@ -11,10 +11,8 @@ use Rattle.octets.specs.Classes.{token}
 use Rattle.scans.specs.helpers.Runs.{run_end}
 use Rattle.media.specs.declared.MediaType.{MediaType}
 use Rattle.media.specs.declared.Parameter.{Parameter}
-use Rattle.media.specs.declared.Outcome.{Outcome}
-use Rattle.media.specs.declared.Outcome.TheVariants as O
-use Rattle.media.specs.declared.Step.{Step}
-use Rattle.media.specs.declared.Step.TheVariants.{Passed, Stopped}
+use Rattle.octets.specs.declared.Refusal.{Refusal}
+use Rattle.octets.specs.Reading.{number_of, place_of}
 use Rattle.media.specs.Grammar.{Name, attribute, EQUALS, argument, parameters}
 use Rattle.media.specs.Grammar.{attributes, repeats, entries, kind, parameter_limit, rules}
 use Rattle.media.specs.Places.{Placed}
@@ -62,9 +60,9 @@ module _ (s : List ℕ) where
     pub some : e ≡ 0 → ⊥
 
   -- type and subtype were read, or the text is refused
-  abbrev pub NamesRead : Outcome → Type 0
-  NamesRead (O.Read m) = Found m [] (m.subtype_start + m.subtype_length)
-  NamesRead (O.Refused x) = header rules s ≡ refused x.number x.place
+  abbrev pub NamesRead : Result MediaType Refusal → Type 0
+  NamesRead (Ok m) = Found m [] (m.subtype_start + m.subtype_length)
+  NamesRead (Err r) = header rules s ≡ refused (number_of r) (place_of r)
 
   -- the same where an attribute has to begin
   pub record NameAt (m : MediaType) (ps : List Parameter) (i : ℕ) : Type 0 where
@@ -94,10 +92,10 @@ module _ (s : List ℕ) where
     pub room : length ps < parameter_limit
     pub forward : i < e
 
-  abbrev pub StepAt : MediaType → List Parameter → ℕ → Step → Type 0
-  StepAt m ps i (Passed p e) = Read m ps i p e
-  StepAt m ps i (Stopped x) = header rules s ≡ refused x.number x.place
+  abbrev pub StepAt : MediaType → List Parameter → ℕ → Result (Parameter × ℕ) Refusal → Type 0
+  StepAt m ps i (Ok v) = Read m ps i v.0 v.1
+  StepAt m ps i (Err r) = header rules s ≡ refused (number_of r) (place_of r)
 
   -- the value behind the attribute from i to e, whatever was found before
-  abbrev pub ValueAt : (i e : ℕ) → Step → Type 0
+  abbrev pub ValueAt : (i e : ℕ) → Result (Parameter × ℕ) Refusal → Type 0
   ValueAt i e r = (m : MediaType) (ps : List Parameter) → Attribute m ps i e → StepAt m ps e r
