@@ -43,6 +43,17 @@ pub struct Media {
     pub parameters: Table,
 }
 
+impl Media {
+    // The parameters that were read, without the unused entries.
+    pub fn used(&self) -> &[Parameter]
+        ensures { result.now ≡ read_already self.now }
+    {
+        self.parameters
+            .get(..self.names.count)
+            .unwrap_or(&self.parameters)
+    }
+}
+
 const UNUSED: Parameter = Parameter {
     start: 0,
     length: 0,
@@ -157,7 +168,7 @@ fn read_attribute(s: &[u8], found: &Media, start: usize) -> Result<(Parameter, u
     if equals >= s.len() || s[equals] != b'=' {
         return Err(Refusal::Malformed(equals));
     }
-    if is_among(s, &s[start..equals], &found.parameters[..count]) {
+    if is_among(s, &s[start..equals], found.used()) {
         return Err(Refusal::RepeatedAttribute(equals));
     }
     read_value(s, start, equals)

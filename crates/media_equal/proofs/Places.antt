@@ -3,7 +3,7 @@ use Prim.Native.Nat.{ℕ}
 use native.Mathlib.Omega.{arith}
 use mathlib.Core.Path.{◌≡◌, refl, sym, ap, subst, ◌∙◌}
 use mathlib.Core.List.{List, [], ◌∷◌}
-use lib.ListN.{length, take}
+use lib.ListN.{length}
 use Rattle.grammar.specs.Grammar.{Part}
 use Rattle.grammar.specs.Reading.{value, refused}
 use Rattle.grammar.specs.helpers.Judge.{header}
@@ -12,18 +12,15 @@ use Rattle.grammar.proofs.Pieces.{slice-within, slice_is}
 use Rattle.grammar.proofs.Slices.{slices}
 use Rattle.grammar.proofs.Values.{answered-alike}
 use Rattle.octets.specs.declared.Refusal.{Refusal}
-use Rattle.media.specs.declared.MediaType.{MediaType}
-use Rattle.media.specs.declared.Parameter.{Parameter}
-use Rattle.media.specs.declared.Outcome.{Outcome}
-use Rattle.media.specs.declared.Outcome.TheVariants.{Read, Refused}
-use Rattle.media.specs.declared.Reading.{Reading}
+use Rattle.std.specs.Prelude.{Ok, Err}
+use Rattle.octets.specs.Reading.{number_of, place_of}
+use Rattle.media.specs.declared.Media.{Media as MediaRead}
 use Rattle.media.specs.Grammar.{Name, media_type, entries, Media, none_read, media, rules}
 use Rattle.media.specs.Places.{Placed, NamesWithin}
-use Rattle.media.specs.Reading.{outcome_verdict, verdict}
+use Rattle.media.specs.Reading.{read_already, verdict}
 use Rattle.media.proofs.Parts.{one_way}
 use Rattle.media_equal.specs.Meaning.{settings, meaning, meanings}
 use Rattle.media_equal.specs.Places.{settings_at, meaning_at, Says}
-use Rattle.media_equal.specs.helpers.Places.{PlacedMedia}
 
 module _ (s : List ℕ) where
   -- the parts of the parameters
@@ -82,22 +79,8 @@ module _ (s : List ℕ) where
 
   -- ## The answer of `read`
 
-  module _ (r : Reading) (e : verdict r ≡ header rules s) where
-    pub outcome-says : (o : Outcome) → r.outcome ≡ o → header rules s ≡ outcome_verdict o r.parameters
-    outcome-says o f = sym e ∙ ap (λ (x : Outcome). outcome_verdict x r.parameters) f
+  pub read-means : (m : MediaRead) → verdict (Ok m) ≡ header rules s → header meanings s ≡ value (meaning_at s m.names (read_already m))
+  read-means m e = (says (record { names = m.names; table = read_already m }) (sym e)).means
 
-    module _ (x : MediaType) (f : r.outcome ≡ Read x) where
-      abbrev found : List Parameter
-      found = take x.count r.parameters
-
-      told : Says s (record { names = x; table = found })
-      told = says (record { names = x; table = found }) (outcome-says (Read x) f)
-
-      pub read-placed : PlacedMedia s x r.parameters
-      read-placed = record { names = told.names; entries = record { full = told.full; each = told.each } }
-
-      pub read-means : header meanings s ≡ value (meaning_at s x found)
-      read-means = told.means
-
-    pub refused-alike : (x : Refusal) → r.outcome ≡ Refused x → header meanings s ≡ refused x.number x.place
-    refused-alike x f = says_nothing x.number x.place (outcome-says (Refused x) f)
+  pub refused-alike : (r : Refusal) → verdict (Err r) ≡ header rules s → header meanings s ≡ refused (number_of r) (place_of r)
+  refused-alike r e = says_nothing (number_of r) (place_of r) (sym e)

@@ -1,43 +1,16 @@
--- The first n entries of a table, one at a time: settings.
-use Prim.Native.Nat.{ℕ, ◌+◌, ◌≤◌, ◌<◌}
-use mathlib.Core.Path.{◌≡◌, sym, ◌∙◌}
-use mathlib.Core.Bool.{Bool, true, false}
-use mathlib.Core.List.{List}
-use lib.ListN.{take, drop, get_or}
+-- Parameters among others, and settings among others.
+use Rattle.std.proofs.Common.{◌≡◌, Bool, ◌&&◌, ◌||◌, ℕ, List, [], ◌∷◌, refl, ap, ap₂}
+use Rattle.std.specs.List.{list_any, list_all}
 use Rattle.media.specs.declared.Parameter.{Parameter}
-use Rattle.media.specs.Reading.{unused}
-use Rattle.media.specs.helpers.Places.{PlacedTable}
-use Rattle.media.proofs.Tables.{none_left, first}
 use Rattle.media_equal.specs.Meaning.{Setting, same_setting, has_setting, has_settings}
 use Rattle.media_equal.specs.Places.{setting_at, settings_at}
 
-module _ {s : List ℕ} {n : ℕ} {u : List Parameter} (w : PlacedTable s n u) (i : ℕ) where
-  abbrev here : Parameter
-  here = get_or u i unused
+module _ (a b : List ℕ) where
+  any-setting : (p : Setting) (qs : List Parameter) → list_any (λ q. same_setting p (setting_at b q)) qs ≡ has_setting p (settings_at b qs)
+  any-setting p [] = refl
+  any-setting p (q ∷ qs) = ap (λ (t : Bool). same_setting p (setting_at b q) || t) (any-setting p qs)
 
-  abbrev left : List Parameter
-  left = drop i (take n u)
-
-  abbrev behind : List Parameter
-  behind = drop (i + 1) (take n u)
-
-  pub no_setting : (p : Setting) → n ≤ i → false ≡ has_setting p (settings_at s left)
-  no_setting p h = sym (rw (none_left w i h))
-
-  pub all-passed : (qs : List Setting) → n ≤ i → true ≡ has_settings (settings_at s left) qs
-  all-passed qs h = sym (rw (none_left w i h))
-
-  module _ (h : i < n) where
-    module _ (t : Bool) (p : Setting) (e : t ≡ same_setting p (setting_at s here)) where
-      pub found_here : t ≡ true → true ≡ has_setting p (settings_at s left)
-      found_here f = sym (rw (first w i h, sym e ∙ f))
-
-      pub not-here : t ≡ false → has_setting p (settings_at s behind) ≡ has_setting p (settings_at s left)
-      not-here f = sym (rw (first w i h, sym e ∙ f))
-
-    module _ (t : Bool) (qs : List Setting) (e : t ≡ has_setting (setting_at s here) qs) where
-      pub missing_here : t ≡ false → false ≡ has_settings (settings_at s left) qs
-      missing_here f = sym (rw (first w i h, sym e ∙ f))
-
-      pub present_here : t ≡ true → has_settings (settings_at s behind) qs ≡ has_settings (settings_at s left) qs
-      present_here f = sym (rw (first w i h, sym e ∙ f))
+  pub all-settings : (ps qs : List Parameter)
+      → list_all (λ p. list_any (λ q. same_setting (setting_at a p) (setting_at b q)) qs) ps ≡ has_settings (settings_at a ps) (settings_at b qs)
+  all-settings [] qs = refl
+  all-settings (p ∷ ps) qs = ap₂ (λ (t u : Bool). t && u) (any-setting (setting_at a p) qs) (all-settings ps qs)

@@ -1,85 +1,48 @@
 // Media types compared by what they mean: RFC 2616 3.7.
 #![tactic(auto)]
 
-ghost use Rattle.std.specs.Prelude.{◌≡◌, ◌≤◌, ◌<◌, ◌+◌, length, take};
-ghost use Rattle.grammar.specs.helpers.Judge.{header};
-ghost use Rattle.grammar.specs.Reading as G;
+ghost use Rattle.std.specs.Prelude.{◌≡◌, ◌<◌, length};
+ghost use Rattle.std.specs.List.{list_any, list_all};
 ghost use Rattle.octets.specs.Comparing.{comparison};
-ghost use Rattle.media.specs.Grammar.{part_at};
-ghost use Rattle.media.specs.Places.{PlacedParameter, NamesWithin};
-ghost use Rattle.media.specs.helpers.Places.{PlacedTable};
-ghost use Rattle.media_equal.specs.Meaning.{unquoted, same_text, same_setting, has_setting, has_settings, meanings, same_meaning};
-ghost use Rattle.media_equal.specs.Places.{setting_at, settings_at, meaning_at};
+ghost use Rattle.media.specs.Reading.{read_already};
+ghost use Rattle.media_equal.specs.Meaning.{unquoted, same_text, same_setting, same_meaning};
+ghost use Rattle.media_equal.specs.Places.{setting_at, meaning_at};
 ghost use Rattle.media_equal.specs.Reading.{equality};
-ghost use Rattle.media_equal.specs.helpers.Places.{same_names, same_byte, UnquotedAt, PlacedMedia};
+ghost use Rattle.media_equal.specs.helpers.Places.{same_names, same_byte, UnquotedAt};
 
-use media::{MediaType, Outcome, Parameter, Table};
-use octets::Compared;
+use media::{Media, MediaType, Parameter, part};
+use octets::PairRefusal;
 
 // Reads the first, then the second, and compares what they mean.
-pub fn equal(a: &[u8], b: &[u8]) -> Compared
+pub fn equal(a: &[u8], b: &[u8]) -> Result<bool, PairRefusal>
     ensures { comparison result ≡ equality a.now b.now }
 {
-    let first = media::read(a);
-    let outcome = first.outcome;
-    match outcome {
-        Outcome::Refused(r) => Compared::FirstRefused(r),
-        Outcome::Read(m) => {
-            let table = first.parameters;
-            equal_to(a, m, table, b)
-        }
-    }
+    let first = media::read(a).map_err(PairRefusal::First);
+    let Ok(m) = first else {
+        return first.map(|_| false);
+    };
+    let second = media::read(b).map_err(PairRefusal::Second);
+    let Ok(n) = second else {
+        return second.map(|_| false);
+    };
+    Ok(same_media(a, &m, b, &n))
 }
 
-// Compares with the media type `b`, which is still to be read, the one that was read from `a`.
-fn equal_to(a: &[u8], m: MediaType, table: Table, b: &[u8]) -> Compared
-    requires placed_media { PlacedMedia a.now m table }
-    requires a_value { header meanings a.now ≡ G.value (meaning_at a.now m (take m.count table)) }
-    ensures { comparison result ≡ equality a.now b.now }
+fn same_media(a: &[u8], m: &Media, b: &[u8], n: &Media) -> bool
+    ensures { result ≡ same_meaning (meaning_at a.now m.now.names (read_already m.now))
+        (meaning_at b.now n.now.names (read_already n.now)) }
 {
-    let second = media::read(b);
-    let outcome = second.outcome;
-    match outcome {
-        Outcome::Refused(r) => Compared::SecondRefused(r),
-        Outcome::Read(n) => {
-            let other = second.parameters;
-            if same_media(a, m, table, b, n, other) {
-                Compared::Same
-            } else {
-                Compared::Different
-            }
-        }
-    }
-}
-
-fn same_media(a: &[u8], m: MediaType, table: Table, b: &[u8], n: MediaType, other: Table) -> bool
-    requires placed_media { PlacedMedia a.now m table }
-    requires placed_media_2 { PlacedMedia b.now n other }
-    ensures { result ≡ same_meaning (meaning_at a.now m (take m.count table))
-        (meaning_at b.now n (take n.count other)) }
-{
-    if !same_names(a, m, b, n) {
+    if !same_names(a, m.names, b, n.names) {
         return false;
     }
-    if !has_parameters(a, table, m.count, b, other, n.count) {
+    if !has_parameters(a, m.used(), b, n.used()) {
         return false;
     }
-    has_parameters(b, other, n.count, a, table, m.count)
-}
-
-// The bytes of a part.
-fn part<'a>(s: &'a [u8], start: usize, len: usize) -> &'a [u8]
-    requires { start + len ≤ length s.now }
-    ensures { result.now ≡ part_at s.now start len }
-{
-    let end = start + len;
-    &s[start..end]
+    has_parameters(b, n.used(), a, m.used())
 }
 
 // Are type and subtype the same, letter case ignored?
 fn same_names(a: &[u8], m: MediaType, b: &[u8], n: MediaType) -> bool
-    requires names_within { NamesWithin a.now m }
-    requires names_within_2 { NamesWithin b.now n }
     ensures { result ≡ same_names a.now m b.now n }
 {
     let x = part(a, m.type_start, m.type_length);
@@ -92,50 +55,22 @@ fn same_names(a: &[u8], m: MediaType, b: &[u8], n: MediaType) -> bool
     octets::same_ignoring_case(x, y)
 }
 
-// Is each of the first `count` parameters of `a` one of the first `limit` of `b`?
-fn has_parameters(
-    a: &[u8],
-    table: Table,
-    count: usize,
-    b: &[u8],
-    other: Table,
-    limit: usize,
-) -> bool
-    requires placed_table { PlacedTable a.now count table }
-    requires placed_table_2 { PlacedTable b.now limit other }
-    ensures { result ≡ has_settings (settings_at a.now (take count table))
-        (settings_at b.now (take limit other)) }
+// Is each of the parameters of `a` one of those of `b`?
+fn has_parameters(a: &[u8], parameters: &[Parameter], b: &[u8], others: &[Parameter]) -> bool
+    ensures { result ≡ list_all (λ p. list_any (λ q. same_setting (setting_at a.now p) (setting_at b.now q)) others.now) parameters.now }
 {
-    let mut i = 0;
-    while i < count {
-        if !has_parameter(a, table[i], b, other, limit) {
-            return false;
-        }
-        i += 1;
-    }
-    true
+    parameters.iter().all(|p| has_parameter(a, *p, b, others))
 }
 
-// Is the parameter one of the first `limit` of `b`?
-fn has_parameter(a: &[u8], p: Parameter, b: &[u8], other: Table, limit: usize) -> bool
-    requires placed_parameter { PlacedParameter a.now p }
-    requires placed_table { PlacedTable b.now limit other }
-    ensures { result ≡ has_setting (setting_at a.now p) (settings_at b.now (take limit other)) }
+// Is the parameter one of those of `b`?
+fn has_parameter(a: &[u8], p: Parameter, b: &[u8], others: &[Parameter]) -> bool
+    ensures { result ≡ list_any (λ q. same_setting (setting_at a.now p) (setting_at b.now q)) others.now }
 {
-    let mut i = 0;
-    while i < limit {
-        if same_parameter(a, p, b, other[i]) {
-            return true;
-        }
-        i += 1;
-    }
-    false
+    others.iter().any(|q| same_parameter(a, p, b, *q))
 }
 
 // Names ignore letter case, and so does the value of `charset`; values are compared as what they stand for.
 fn same_parameter(a: &[u8], p: Parameter, b: &[u8], q: Parameter) -> bool
-    requires placed_parameter { PlacedParameter a.now p }
-    requires placed_parameter_2 { PlacedParameter b.now q }
     ensures { result ≡ same_setting (setting_at a.now p) (setting_at b.now q) }
 {
     let x = part(a, p.start, p.length);

@@ -1,7 +1,11 @@
 -- `media::read_attribute` meets its contract: each way out is what the grammar leaves there.
 use native.Mathlib.Omega.{arith}
-use mathlib.Core.Path.{sym, ◌∙◌}
+use mathlib.Core.Path.{sym, ap, ◌∙◌}
 use Rattle.grammar.specs.helpers.Scans.{slice}
+use Rattle.std.specs.Prelude.{List}
+use Rattle.media.specs.declared.Parameter.{Parameter}
+use Rattle.media.specs.Grammar.{has_name}
+use Rattle.media.specs.helpers.Places.{names_at}
 use Rattle.media.specs.Reading.{read_already}
 use Rattle.media.proofs.Tables.{any-named}
 use Rattle.media.proofs.Scan.{counted_in, steps_on, name-none}
@@ -31,7 +35,8 @@ returns-then-equals-s c =
 pub returns-then-is_among : goal.returns-then-is_among
 returns-then-is_among c =
     let g = c.token_end-equals in
-    let e = sym c.if-is_among.true ∙ c.is_among.ensures ∙ any-named c.args.s.now (slice c.args.s.now c.args.start g.result) (read_already c.args.found.now) in
+    let e = sym c.if-is_among.true ∙ c.is_among.ensures ∙ any-named c.args.s.now (slice c.args.s.now c.args.start g.result) c.used.result.now
+    ∙ ap (λ (t : List Parameter). has_name (slice c.args.s.now c.args.start g.result) (names_at c.args.s.now t)) c.used.ensures in
     name-repeated c.requires g.result g.ensures
     c.if-equals-start.false
     (omega (arith, counted_in c.requires.before, c.requires.before.few))
@@ -43,7 +48,8 @@ returns c =
     let s = x.s.now in
     let ps = read_already x.found.now in
     let g = c.token_end-equals in
-    let e = sym c.if-is_among.false ∙ c.is_among.ensures ∙ any-named s (slice s x.start g.result) ps in
+    let e = sym c.if-is_among.false ∙ c.is_among.ensures ∙ any-named s (slice s x.start g.result) c.used.result.now
+    ∙ ap (λ (t : List Parameter). has_name (slice s x.start g.result) (names_at s t)) c.used.ensures in
     let w = name_new c.requires g.result g.ensures
     c.if-equals-start.false
     (omega (arith, counted_in c.requires.before, c.requires.before.few))

@@ -3,10 +3,7 @@ use Rattle.std.specs.Prelude.{ℕ, ◌+◌, ◌≤◌, ◌<◌, ◌≡◌, Bool,
 use Rattle.grammar.specs.Grammar.{lower}
 use Rattle.octets.specs.Case.{alike}
 use Rattle.media.specs.declared.MediaType.{MediaType}
-use Rattle.media.specs.declared.Parameter.{Parameter}
 use Rattle.media.specs.Grammar.{part_at}
-use Rattle.media.specs.Places.{NamesWithin}
-use Rattle.media.specs.helpers.Places.{PlacedTable}
 use Rattle.media_equal.specs.Meaning.{unquoted}
 
 module _ (s : List ℕ) where
@@ -15,10 +12,6 @@ module _ (s : List ℕ) where
     pub on : i ≤ k
     pub within : k < length s
     pub is : unquoted in_quotes (drop i s) ≡ get_or s k 0 ∷ unquoted in_quotes (drop (k + 1) s)
-
-  pub record PlacedMedia (m : MediaType) (table : List Parameter) : Type 0 where
-    pub names : NamesWithin s m
-    pub entries : PlacedTable s m.count table
 
 -- type and subtype are the same, letter case ignored
 abbrev pub same_names : (a : List ℕ) → MediaType → (b : List ℕ) → MediaType → Bool
