@@ -3,6 +3,7 @@
 
 ghost use Rattle.std.specs.Prelude.{◌≡◌};
 ghost use Rattle.grammar.specs.helpers.Judge.{header};
+ghost use Rattle.octets.specs.Reading.{verdict};
 ghost use Rattle.language.specs.Grammar.{rules as languages};
 ghost use Rattle.language.specs.Reading.{equality};
 ghost use Rattle.etag.specs.Grammar.{rules as etags};
@@ -11,10 +12,11 @@ ghost use Rattle.ffi_tags.specs.Fields.{language_fields, etag_fields};
 ghost use Rattle.ffi.specs.Fields.{same_fields};
 
 use ffi::QzSame;
+use octets::Refusal;
 
 // A language tag that was read.
 #[repr(C)]
-#[derive(Clone, Copy)]
+#[derive(Clone, Copy, Default)]
 pub struct QzLanguage {
     pub number: u8,
     pub place: usize,
@@ -25,7 +27,7 @@ pub struct QzLanguage {
 
 // An entity tag that was read.
 #[repr(C)]
-#[derive(Clone, Copy)]
+#[derive(Clone, Copy, Default)]
 pub struct QzTag {
     pub number: u8,
     pub place: usize,
@@ -35,25 +37,53 @@ pub struct QzTag {
     pub length: usize,
 }
 
+// What a reader of language tags gives, as C sees it.
+impl From<Result<language::Tag, Refusal>> for QzLanguage {
+    ghost from_gives = { λ v read. read ≡ language_fields (verdict v) };
+
+    fn from(v: Result<language::Tag, Refusal>) -> QzLanguage {
+        match v {
+            Ok(v) => QzLanguage {
+                parts: v.parts,
+                primary: v.primary_length,
+                ..QzLanguage::default()
+            },
+            Err(r) => QzLanguage {
+                number: r.number(),
+                place: r.place(),
+                ..QzLanguage::default()
+            },
+        }
+    }
+}
+
+// What a reader of entity tags gives, as C sees it.
+impl From<Result<etag::Tag, Refusal>> for QzTag {
+    ghost from_gives = { λ v read. read ≡ etag_fields (verdict v) };
+
+    fn from(v: Result<etag::Tag, Refusal>) -> QzTag {
+        match v {
+            Ok(v) => QzTag {
+                weak: v.weak,
+                start: v.start,
+                length: v.length,
+                ..QzTag::default()
+            },
+            Err(r) => QzTag {
+                number: r.number(),
+                place: r.place(),
+                ..QzTag::default()
+            },
+        }
+    }
+}
+
 // A language tag: parts of 1 to 8 letters joined by `-`.
 #[unsafe(no_mangle)]
 pub extern "C" fn qz_language_read(s: &[u8]) -> QzLanguage
     ensures { result ≡ language_fields (header languages s.now) }
 {
-    match language::read(s) {
-        language::Reading::Read(v) => QzLanguage {
-            number: 0,
-            place: 0,
-            parts: v.parts,
-            primary: v.primary_length,
-        },
-        language::Reading::Refused(r) => QzLanguage {
-            number: r.number,
-            place: r.place,
-            parts: 0,
-            primary: 0,
-        },
-    }
+    QzLanguage::from(language::read(s))
 }
 
 // Reads first `a`, then `b`; `same` where they are equal, ignoring case.
@@ -61,7 +91,7 @@ pub extern "C" fn qz_language_read(s: &[u8]) -> QzLanguage
 pub extern "C" fn qz_language_equal(a: &[u8], b: &[u8]) -> QzSame
     ensures { result ≡ same_fields (equality a.now b.now) }
 {
-    ffi::same_of(language::equal(a, b))
+    QzSame::from(language::equal(a, b))
 }
 
 // An entity tag: optional `W/` in either case, then a quoted string.
@@ -69,22 +99,7 @@ pub extern "C" fn qz_language_equal(a: &[u8], b: &[u8]) -> QzSame
 pub extern "C" fn qz_etag_read(s: &[u8]) -> QzTag
     ensures { result ≡ etag_fields (header etags s.now) }
 {
-    match etag::read(s) {
-        etag::Reading::Read(v) => QzTag {
-            number: 0,
-            place: 0,
-            weak: v.weak,
-            start: v.start,
-            length: v.length,
-        },
-        etag::Reading::Refused(r) => QzTag {
-            number: r.number,
-            place: r.place,
-            weak: false,
-            start: 0,
-            length: 0,
-        },
-    }
+    QzTag::from(etag::read(s))
 }
 
 // Reads first `a`, then `b`; `same` where neither is weak and the quoted bytes are the same as sent.
@@ -92,7 +107,7 @@ pub extern "C" fn qz_etag_read(s: &[u8]) -> QzTag
 pub extern "C" fn qz_etag_strong_match(a: &[u8], b: &[u8]) -> QzSame
     ensures { result ≡ same_fields (strong_matching a.now b.now) }
 {
-    ffi::same_of(etag_match::strong_match(a, b))
+    QzSame::from(etag_match::strong_match(a, b))
 }
 
 // Reads first `a`, then `b`; `same` where the quoted bytes are the same as sent.
@@ -100,5 +115,5 @@ pub extern "C" fn qz_etag_strong_match(a: &[u8], b: &[u8]) -> QzSame
 pub extern "C" fn qz_etag_weak_match(a: &[u8], b: &[u8]) -> QzSame
     ensures { result ≡ same_fields (weak_matching a.now b.now) }
 {
-    ffi::same_of(etag_match::weak_match(a, b))
+    QzSame::from(etag_match::weak_match(a, b))
 }
