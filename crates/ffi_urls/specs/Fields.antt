@@ -1,25 +1,28 @@
 -- Which field of a struct is what.
-use Rattle.std.specs.Prelude.{true, false}
+use Rattle.std.specs.Prelude.{true, false, Option, Some, None}
 use Rattle.grammar.specs.Reading.{Verdict, value, refused}
-use Rattle.http_url.specs.declared.Place.{Place}
-use Rattle.http_url.specs.declared.Place.TheVariants.{Absent, At}
+use Rattle.http_url.specs.declared.Span.{Span}
 use Rattle.http_url.specs.declared.Url.{Url}
+use Rattle.ffi_urls.specs.declared.QzSpan.{QzSpan}
 use Rattle.ffi_urls.specs.declared.QzPart.{QzPart}
 use Rattle.ffi_urls.specs.declared.QzUrl.{QzUrl}
+
+abbrev pub span_fields : Span → QzSpan
+span_fields s = record { start = s.start; length = s.length }
 
 abbrev pub absent : QzPart
 absent = record { present = false; start = 0; length = 0 }
 
-abbrev pub part_fields : Place → QzPart
-part_fields Absent = absent
-part_fields (At s) = record { present = true; start = s.start; length = s.length }
+abbrev pub part_fields : Option Span → QzPart
+part_fields None = absent
+part_fields (Some s) = record { present = true; start = s.start; length = s.length }
 
 abbrev pub url_fields : Verdict Url → QzUrl
 url_fields (value u) =
     record {
       number = 0;
       place = 0;
-      host = record { start = u.host.start; length = u.host.length };
+      host = span_fields u.host;
       port = u.port;
       path = part_fields u.path;
       query = part_fields u.query;

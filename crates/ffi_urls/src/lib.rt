@@ -3,18 +3,20 @@
 
 ghost use Rattle.std.specs.Prelude.{◌≡◌, length};
 ghost use Rattle.grammar.specs.helpers.Judge.{header};
+ghost use Rattle.octets.specs.Reading.{verdict};
 ghost use Rattle.http_url.specs.Grammar.{rules as urls};
 ghost use Rattle.url_equal.specs.Meaning.{equality as url-equality};
 ghost use Rattle.url_normal.specs.Normal.{normal_writing, normal_output};
 ghost use Rattle.ffi.specs.Fields.{same_fields, written_fields};
-ghost use Rattle.ffi_urls.specs.Fields.{url_fields, part_fields};
+ghost use Rattle.ffi_urls.specs.Fields.{url_fields, span_fields, part_fields};
 
 use ffi::{QzSame, QzWritten};
-use http_url::Place;
+use http_url::{Span, Url};
+use octets::Refusal;
 
 // Where a part stands in the input.
 #[repr(C)]
-#[derive(Clone, Copy)]
+#[derive(Clone, Copy, Default)]
 pub struct QzSpan {
     pub start: usize,
     pub length: usize,
@@ -22,7 +24,7 @@ pub struct QzSpan {
 
 // The same of a part that may be absent. A part that is present may be empty.
 #[repr(C)]
-#[derive(Clone, Copy)]
+#[derive(Clone, Copy, Default)]
 pub struct QzPart {
     pub present: bool,
     pub start: usize,
@@ -31,7 +33,7 @@ pub struct QzPart {
 
 // A URL that was read.
 #[repr(C)]
-#[derive(Clone, Copy)]
+#[derive(Clone, Copy, Default)]
 pub struct QzUrl {
     pub number: u8,
     pub place: usize,
@@ -44,46 +46,62 @@ pub struct QzUrl {
     pub query: QzPart,
 }
 
-// A part that is not there.
-const ABSENT: QzPart = QzPart {
-    present: false,
-    start: 0,
-    length: 0,
-};
+// Where a part stands, as C sees it.
+impl From<Span> for QzSpan {
+    ghost from_gives = { λ x span. span ≡ span_fields x };
+
+    fn from(x: Span) -> QzSpan {
+        QzSpan {
+            start: x.start,
+            length: x.length,
+        }
+    }
+}
+
+// The same of a part that may be absent.
+impl From<Option<Span>> for QzPart {
+    ghost from_gives = { λ x part. part ≡ part_fields x };
+
+    fn from(x: Option<Span>) -> QzPart {
+        match x {
+            None => QzPart::default(),
+            Some(span) => QzPart {
+                present: true,
+                start: span.start,
+                length: span.length,
+            },
+        }
+    }
+}
+
+// What a reader of URLs gives, as C sees it.
+impl From<Result<Url, Refusal>> for QzUrl {
+    ghost from_gives = { λ u read. read ≡ url_fields (verdict u) };
+
+    fn from(u: Result<Url, Refusal>) -> QzUrl {
+        match u {
+            Ok(u) => QzUrl {
+                host: QzSpan::from(u.host),
+                port: u.port,
+                path: QzPart::from(u.path),
+                query: QzPart::from(u.query),
+                ..QzUrl::default()
+            },
+            Err(r) => QzUrl {
+                number: r.number(),
+                place: r.place(),
+                ..QzUrl::default()
+            },
+        }
+    }
+}
 
 // An http URL; the port is at most 65,535.
 #[unsafe(no_mangle)]
 pub extern "C" fn qz_url_read(s: &[u8]) -> QzUrl
     ensures { result ≡ url_fields (header urls s.now) }
 {
-    match http_url::read(s) {
-        http_url::Reading::Read(u) => {
-            let path = u.path;
-            let query = u.query;
-            QzUrl {
-                number: 0,
-                place: 0,
-                host: QzSpan {
-                    start: u.host.start,
-                    length: u.host.length,
-                },
-                port: u.port,
-                path: part_of(path),
-                query: part_of(query),
-            }
-        }
-        http_url::Reading::Refused(r) => QzUrl {
-            number: r.number,
-            place: r.place,
-            host: QzSpan {
-                start: 0,
-                length: 0,
-            },
-            port: 0,
-            path: ABSENT,
-            query: ABSENT,
-        },
-    }
+    QzUrl::from(http_url::read(s))
 }
 
 // Reads first `a`, then `b`; `same` where they name the same page: host in any case, port as a number, an absent path
@@ -92,7 +110,7 @@ pub extern "C" fn qz_url_read(s: &[u8]) -> QzUrl
 pub extern "C" fn qz_url_equal(a: &[u8], b: &[u8]) -> QzSame
     ensures { result ≡ same_fields (url-equality a.now b.now) }
 {
-    ffi::same_of(url_equal::equal(a, b))
+    QzSame::from(url_equal::equal(a, b))
 }
 
 // Writes the normal form of a URL: scheme and host in lower case, no port 80, any other port without leading zeros, `/` for an absent
@@ -105,18 +123,5 @@ pub extern "C" fn qz_url_normalize(s: &[u8], out: &mut [u8]) -> QzWritten
     ensures answers { result ≡ written_fields (normal_writing s.now (length out.old)) }
     ensures writes { out.new ≡ normal_output s.now out.old }
 {
-    ffi::written_fields(url_normal::normalize(s, out))
-}
-
-fn part_of(p: Place) -> QzPart
-    ensures { result ≡ part_fields p }
-{
-    match p {
-        Place::Absent => ABSENT,
-        Place::At(span) => QzPart {
-            present: true,
-            start: span.start,
-            length: span.length,
-        },
-    }
+    QzWritten::from(url_normal::normalize(s, out))
 }
