@@ -3,7 +3,6 @@ use Prim.Native.Nat.{ℕ}
 use mathlib.Core.Path.{◌≡◌, refl, sym, ap, ◌∙◌}
 use mathlib.Core.Bool.{Bool, true, false}
 use mathlib.Core.List.{List, [], ◌∷◌}
-use lib.ListN.{take}
 use Rattle.grammar.specs.Grammar.{Part}
 use Rattle.grammar.specs.Reading.{value, refused}
 use Rattle.grammar.specs.helpers.Judge.{header}
@@ -12,13 +11,12 @@ use Rattle.grammar.proofs.Pieces.{slice_is}
 use Rattle.grammar.proofs.Slices.{slices}
 use Rattle.grammar.proofs.Values.{answered-alike}
 use Rattle.octets.specs.declared.Refusal.{Refusal}
-use Rattle.media.specs.declared.MediaType.{MediaType}
-use Rattle.media.specs.declared.Outcome.TheVariants.{Read, Refused}
-use Rattle.media.specs.declared.Reading.{Reading}
+use Rattle.std.specs.Prelude.{Ok, Err}
+use Rattle.octets.specs.Reading.{number_of, place_of}
+use Rattle.media.specs.declared.Media.{Media as MediaRead}
 use Rattle.media.specs.Grammar.{Name, media_type, entries, Media, media, rules}
-use Rattle.media.specs.Reading.{verdict}
+use Rattle.media.specs.Reading.{read_already, verdict}
 use Rattle.media.proofs.Parts.{one_way}
-use Rattle.media_equal.proofs.Places.{outcome-says}
 use Rattle.media_charset.specs.Charset.{Effective, no_charset, default_charset, stated_or, charset_of, charsets}
 use Rattle.media_charset.specs.Places.{stated_at, charset_at}
 
@@ -56,10 +54,8 @@ module _ (s : List ℕ) where
 
     -- ## The answer of `read`
 
-    module _ (r : Reading) (e : verdict r ≡ header rules s) where
-      pub read-effect : (x : MediaType) → r.outcome ≡ Read x
-          → header (charsets a) s ≡ value (charset_at s a x (take x.count r.parameters))
-      read-effect x f = effect (record { names = x; table = take x.count r.parameters }) (outcome-says s r e (Read x) f)
+    pub read-effect : (m : MediaRead) → verdict (Ok m) ≡ header rules s → header (charsets a) s ≡ value (charset_at s a m.names (read_already m))
+    read-effect m e = effect (record { names = m.names; table = read_already m }) (sym e)
 
-      pub refused-effect : (x : Refusal) → r.outcome ≡ Refused x → header (charsets a) s ≡ refused x.number x.place
-      refused-effect x f = no_effect x.number x.place (outcome-says s r e (Refused x) f)
+    pub refused-effect : (r : Refusal) → verdict (Err r) ≡ header rules s → header (charsets a) s ≡ refused (number_of r) (place_of r)
+    refused-effect r e = no_effect (number_of r) (place_of r) (sym e)

@@ -1,62 +1,43 @@
 -- `media_charset::read_charset` meets its contract: by the reading, and what it says of the text; what was passed is not `charset`.
-use native.Mathlib.Omega.{arith}
 use mathlib.Core.Path.{sym, ap, ◌∙◌}
+use Rattle.std.proofs.lemmas.Result.{err_from_is_err_and}
 use Rattle.grammar.specs.Reading.{value}
-use Rattle.media.proofs.Tables.{entry-placed}
-use Rattle.media_equal.proofs.Places.{read-placed}
+use Rattle.media.specs.Grammar.{part_at}
 use Rattle.media_charset.specs.Charset.{default_charset}
+use Rattle.media_charset.specs.Places.{stated_at}
 use Rattle.media_charset.proofs.Places.{read-effect, refused-effect}
-use Rattle.media_charset.proofs.Tables.{entry-below, full-table, not-stated, stated-here, stated-behind}
+use Rattle.media_charset.proofs.Tables.{not-stated, stated-here, stated-behind}
 use Rattle.media_charset.proofs.read_charset.Goals as goal
 
-pub offset_bounds-reading-i : goal.offset_bounds-reading-i
-offset_bounds-reading-i c =
-    let s = c.args.s.now in
-    let w = read-placed s c.read-reading.result c.read-reading.ensures.0 _ c.in-Read.is in
-    omega (arith, entry-below w.entries c.loop-i.i (full-table s c.read-reading.result c.read-reading.ensures) c.loop-i-test.true)
-
-pub bounds-reading-i : goal.bounds-reading-i
-bounds-reading-i c =
-    let s = c.args.s.now in
-    let w = read-placed s c.read-reading.result c.read-reading.ensures.0 _ c.in-Read.is in
-    entry-below w.entries c.loop-i.i (full-table s c.read-reading.result c.read-reading.ensures) c.loop-i-test.true
-
-pub part-requires : goal.part-requires
-part-requires c =
-    let w = read-placed c.args.s.now c.read-reading.result c.read-reading.ensures.0 _ c.in-Read.is in
-    (entry-placed w.entries c.loop-i.i c.loop-i-test.true).name_within
+pub returns-in_err-m : goal.returns-in_err-m
+returns-in_err-m c =
+    let z = c.args in
+    let p = err_from_is_err_and c.from_residual.result c.from_residual.ensures.1 in
+    rw (p.1, p.2) (sym (refused-effect z.s.now z.assumed _ c.in_err-m.ensures.0))
 
 pub returns-then-same_ignoring_case : goal.returns-then-same_ignoring_case
 returns-then-same_ignoring_case c =
-    let l = c.loop-i in
+    let l = c.loop-p in
     let z = c.args in
-    let w = read-placed z.s.now c.read-reading.result c.read-reading.ensures.0 _ c.in-Read.is in
-    ap value (stated-here w.entries l.i c.loop-i-test.true _ _ _ c.part.ensures
-    c.same_ignoring_case.ensures c.if-same_ignoring_case.true ∙ l.invariant)
-    ∙ sym (read-effect z.s.now z.assumed c.read-reading.result c.read-reading.ensures.0 _ c.in-Read.is)
+    let m = c.in_ok-m.m in
+    let other = default_charset z.assumed (part_at z.s.now m.names.type_start m.names.type_length) in
+    ap value (stated-here z.s.now c.used-parameters.result.now l.p-index c.loop-p-test.true _ other _ c.part.ensures
+    c.same_ignoring_case.ensures c.if-same_ignoring_case.true ∙ l.invariant other ∙ ap (stated_at z.s.now other) c.used-parameters.ensures)
+    ∙ sym (read-effect z.s.now z.assumed m c.in_ok-m.ensures.0)
 
-pub loop-i-preserved : goal.loop-i-preserved
-loop-i-preserved c =
-    let l = c.loop-i in
-    let w = read-placed c.args.s.now c.read-reading.result c.read-reading.ensures.0 _ c.in-Read.is in
-    stated-behind w.entries l.i c.loop-i-test.true _ _ _ c.part.ensures
+pub loop-p-preserved : goal.loop-p-preserved
+loop-p-preserved c other =
+    stated-behind c.args.s.now c.used-parameters.result.now c.loop-p.p-index c.loop-p-test.true _ other _ c.part.ensures
     c.same_ignoring_case.ensures c.if-same_ignoring_case.false
-    ∙ l.invariant
+    ∙ c.loop-p.invariant other
 
-pub part-requires-in-Read : goal.part-requires-in-Read
-part-requires-in-Read c =
-    (read-placed c.args.s.now c.read-reading.result c.read-reading.ensures.0 _ c.in-Read.is).names.type_within
-
-pub returns-in-Refused : goal.returns-in-Refused
-returns-in-Refused c =
+pub returns : goal.returns
+returns c =
+    let l = c.loop-p in
     let z = c.args in
-    sym (refused-effect z.s.now z.assumed c.read-reading.result c.read-reading.ensures.0 _ c.in-Refused.is)
-
-pub returns-after-loop-i : goal.returns-after-loop-i
-returns-after-loop-i c =
-    let l = c.loop-i in
-    let z = c.args in
-    let w = read-placed z.s.now c.read-reading.result c.read-reading.ensures.0 _ c.in-Read.is in
-    c.default_charset.ensures
-    ∙ ap value (ap (default_charset z.assumed) c.part-in-Read.ensures ∙ not-stated w.entries l.i _ c.loop-i-test.false ∙ l.invariant)
-    ∙ sym (read-effect z.s.now z.assumed c.read-reading.result c.read-reading.ensures.0 _ c.in-Read.is)
+    let m = c.in_ok-m.m in
+    let other = default_charset z.assumed (part_at z.s.now m.names.type_start m.names.type_length) in
+    ap value (c.default_charset.ensures ∙ ap (default_charset z.assumed) c.part-name.ensures
+    ∙ not-stated z.s.now c.used-parameters.result.now l.p-index other c.loop-p-test.false ∙ l.invariant other
+    ∙ ap (stated_at z.s.now other) c.used-parameters.ensures)
+    ∙ sym (read-effect z.s.now z.assumed m c.in_ok-m.ensures.0)
