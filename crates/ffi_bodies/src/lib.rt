@@ -15,7 +15,7 @@ pub extern "C" fn qz_chunked_decode(input: &[u8], out: &mut [u8]) -> QzBody
     ensures answers { result ≡ body_fields (decoding (length out.old) input.now) }
     ensures writes { out.new ≡ decode_output input.now out.old }
 {
-    ffi::body_of(chunked::decode(input, out))
+    QzBody::from(chunked::decode(input, out))
 }
 
 // Writes a body in chunks of `chunk_len` bytes, then what remains, then the last chunk. The output must not overlap
@@ -25,5 +25,5 @@ pub extern "C" fn qz_chunked_encode(body: &[u8], chunk_len: usize, out: &mut [u8
     ensures answers { result ≡ written_fields (encoding body.now chunk_len (length out.old)) }
     ensures writes { out.new ≡ encoded-output body.now chunk_len out.old }
 {
-    ffi::written_fields(chunk_writer::encode(body, chunk_len, out))
+    QzWritten::from(chunk_writer::encode(body, chunk_len, out))
 }
