@@ -2,16 +2,19 @@
 #![tactic(auto)]
 
 ghost use Rattle.std.specs.Prelude.{◌≡◌, length};
+ghost use Rattle.octets.specs.Reading.{verdict};
 ghost use Rattle.date.specs.Reading.{reading};
 ghost use Rattle.date_writer.specs.Writing.{date_writing, date_output};
 ghost use Rattle.ffi_dates.specs.Fields.{date_fields};
 ghost use Rattle.ffi.specs.Fields.{written_fields};
 
+use date::Date;
 use ffi::QzWritten;
+use octets::Refusal;
 
 // A date that was read.
 #[repr(C)]
-#[derive(Clone, Copy)]
+#[derive(Clone, Copy, Default)]
 pub struct QzDate {
     pub number: u8,
     pub place: usize,
@@ -33,6 +36,32 @@ pub const FIRST_PRESENT_YEAR: u32 = 1632;
 // The last one: 50 years after it is the last year of a date.
 pub const LAST_PRESENT_YEAR: u32 = 9949;
 
+// What a reader of dates gives, as C sees it.
+impl From<Result<Date, Refusal>> for QzDate {
+    ghost from_gives = { λ d read. read ≡ date_fields (verdict d) };
+
+    fn from(d: Result<Date, Refusal>) -> QzDate {
+        match d {
+            Ok(d) => QzDate {
+                number: 0,
+                place: 0,
+                seconds: d.seconds,
+                year: d.fields.year,
+                month: d.fields.month,
+                day: d.fields.day,
+                hour: d.fields.hour,
+                minute: d.fields.minute,
+                second: d.fields.second,
+            },
+            Err(r) => QzDate {
+                number: r.number(),
+                place: r.place(),
+                ..QzDate::default()
+            },
+        }
+    }
+}
+
 // A date in the form of RFC 1123, of RFC 850 or of asctime. Two digits of a year mean the one from 49 years before the present year to 50
 // years after it that ends in them (RFC 2616 19.3). A present year before QZ_FIRST_PRESENT_YEAR or after QZ_LAST_PRESENT_YEAR is
 // QZ_OUT_OF_RANGE, before anything is read.
@@ -40,30 +69,7 @@ pub const LAST_PRESENT_YEAR: u32 = 9949;
 pub extern "C" fn qz_date_read(s: &[u8], present_year: u32) -> QzDate
     ensures { result ≡ date_fields (reading present_year s.now) }
 {
-    match date::read(s, present_year) {
-        date::Reading::Read(d) => QzDate {
-            number: 0,
-            place: 0,
-            seconds: d.seconds,
-            year: d.fields.year,
-            month: d.fields.month,
-            day: d.fields.day,
-            hour: d.fields.hour,
-            minute: d.fields.minute,
-            second: d.fields.second,
-        },
-        date::Reading::Refused(r) => QzDate {
-            number: r.number,
-            place: r.place,
-            seconds: 0,
-            year: 0,
-            month: 0,
-            day: 0,
-            hour: 0,
-            minute: 0,
-            second: 0,
-        },
-    }
+    QzDate::from(date::read(s, present_year))
 }
 
 // Writes the 29 bytes of the RFC 1123 form; the range is -12,212,553,600 to 253,402,300,799.
@@ -72,5 +78,5 @@ pub extern "C" fn qz_date_write(seconds: i64, out: &mut [u8]) -> QzWritten
     ensures answers { result ≡ written_fields (date_writing seconds (length out.old)) }
     ensures writes { out.new ≡ date_output seconds out.old }
 {
-    ffi::written_fields(date_writer::write(seconds, out))
+    QzWritten::from(date_writer::write(seconds, out))
 }
