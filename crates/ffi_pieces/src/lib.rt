@@ -2,12 +2,15 @@
 #![tactic(auto)]
 
 ghost use Rattle.std.specs.Prelude.{◌≡◌, length};
+ghost use Rattle.chunked.specs.Verdict.{verdict};
 ghost use Rattle.pieces.specs.Reading.{begun, state_after, taken_by, answered, output_after};
+ghost use Rattle.ffi.specs.Fields.{body_fields};
 ghost use Rattle.ffi_pieces.specs.Fields.{pieces_fields, pieces_of, handed, fed_fields};
 
+use chunked::Answer;
 use ffi::QzBody;
 use framing::State;
-use octets::OUT_OF_RANGE;
+use octets::Refusal;
 use pieces::Pieces;
 use position_numbers::Numbers;
 
@@ -40,12 +43,54 @@ pub struct QzFed {
     pub body: QzBody,
 }
 
+// A state, as C sees it.
+impl From<Pieces> for QzPieces {
+    ghost from_gives = { λ s q. q ≡ pieces_fields s };
+
+    fn from(s: Pieces) -> QzPieces {
+        let n = Numbers::from(s.position);
+        QzPieces {
+            position: n.position,
+            part: n.part,
+            name: n.name,
+            size: n.size,
+            length: n.length,
+            total: n.total,
+            taken: s.taken,
+            room: s.room,
+            refused: s.refused,
+        }
+    }
+}
+
+// The state that C hands back, whatever its numbers are.
+impl From<QzPieces> for Pieces {
+    ghost from_gives = { λ q s. s ≡ pieces_of q };
+
+    fn from(q: QzPieces) -> Pieces {
+        let position = State::from(Numbers {
+            position: q.position,
+            part: q.part,
+            name: q.name,
+            size: q.size,
+            length: q.length,
+            total: q.total,
+        });
+        Pieces {
+            position,
+            taken: q.taken,
+            room: q.room,
+            refused: q.refused,
+        }
+    }
+}
+
 // Before the first byte of a body whose data goes to an output of `room` bytes.
 #[unsafe(no_mangle)]
 pub extern "C" fn qz_pieces_start(room: usize) -> QzPieces
     ensures { result ≡ pieces_fields (begun room) }
 {
-    pieces_fields(Pieces::start(room))
+    QzPieces::from(Pieces::start(room))
 }
 
 // Reads the next piece of a chunked body: takes the smaller of quota and piece length, fewer only where the body ends or at a refused
@@ -66,62 +111,21 @@ pub extern "C" fn qz_pieces_feed(
         (answered (pieces_of pieces) piece.now quota (length out.old)) }
     ensures writes { out.new ≡ output_after (pieces_of pieces) piece.now quota out.old }
 {
-    let fed = pieces_of(pieces).feed(piece, quota, out);
-    let state = fed.state;
-    let answer = fed.answer;
-    let body = ffi::body_of(answer);
+    let fed = Pieces::from(pieces).feed(piece, quota, out);
     QzFed {
-        pieces: handed(pieces, state, body.number),
+        pieces: handed(pieces, fed.state, fed.answer),
         took: fed.taken,
-        written: state.written(),
-        body,
+        written: fed.state.written(),
+        body: QzBody::from(fed.answer),
     }
 }
 
 // What C keeps for the next call: behind an invalid one, what it handed over.
-fn handed(given: QzPieces, state: Pieces, number: u8) -> QzPieces
-    ensures { result ≡ handed given state number }
+fn handed(given: QzPieces, state: Pieces, answer: Answer) -> QzPieces
+    ensures { result ≡ handed given state (body_fields (verdict answer)).number }
 {
-    if number == OUT_OF_RANGE {
-        return given;
-    }
-    pieces_fields(state)
-}
-
-// A state, as C sees it.
-fn pieces_fields(s: Pieces) -> QzPieces
-    ensures { result ≡ pieces_fields s }
-{
-    let n = Numbers::from(s.position);
-    QzPieces {
-        position: n.position,
-        part: n.part,
-        name: n.name,
-        size: n.size,
-        length: n.length,
-        total: n.total,
-        taken: s.taken,
-        room: s.room,
-        refused: s.refused,
-    }
-}
-
-// The state that C hands back, whatever its numbers are.
-fn pieces_of(q: QzPieces) -> Pieces
-    ensures { result ≡ pieces_of q }
-{
-    let position = State::from(Numbers {
-        position: q.position,
-        part: q.part,
-        name: q.name,
-        size: q.size,
-        length: q.length,
-        total: q.total,
-    });
-    Pieces {
-        position,
-        taken: q.taken,
-        room: q.room,
-        refused: q.refused,
+    match answer {
+        Answer::Refused(Refusal::OutOfRange) => given,
+        _ => QzPieces::from(state),
     }
 }
