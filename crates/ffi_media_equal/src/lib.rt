@@ -7,10 +7,11 @@ ghost use Rattle.media_charset.specs.Charset.{effective_charsets, charsets_assum
 ghost use Rattle.media_charset.specs.Reading.{charset_verdict};
 ghost use Rattle.media_equal.specs.Reading.{equality as media-equality};
 ghost use Rattle.ffi.specs.Fields.{same_fields};
-ghost use Rattle.ffi_media_equal.specs.Fields.{charset_read, charset_fields};
+ghost use Rattle.ffi_media_equal.specs.Fields.{charset_fields};
 
 use ffi::QzSame;
 use media_charset::Charset;
+use octets::Refusal;
 
 // QzCharset.kind where number is 0: none is stated.
 pub const NO_CHARSET: u8 = 0;
@@ -20,7 +21,7 @@ pub const STATED_CHARSET: u8 = 1;
 
 // The charset of a media type.
 #[repr(C)]
-#[derive(Clone, Copy)]
+#[derive(Clone, Copy, Default)]
 pub struct QzCharset {
     pub number: u8,
     pub place: usize,
@@ -32,13 +33,47 @@ pub struct QzCharset {
     pub quoted: bool,
 }
 
+// What a reader of charsets gives, as C sees it.
+impl From<Result<Charset, Refusal>> for QzCharset {
+    ghost from_gives = { λ c charset. charset ≡ charset_fields (charset_verdict c) };
+
+    fn from(c: Result<Charset, Refusal>) -> QzCharset {
+        match c {
+            Ok(Charset::NotStated) => QzCharset {
+                kind: NO_CHARSET,
+                ..QzCharset::default()
+            },
+            Ok(Charset::Stated {
+                start,
+                length,
+                quoted,
+            }) => QzCharset {
+                kind: STATED_CHARSET,
+                start,
+                length,
+                quoted,
+                ..QzCharset::default()
+            },
+            Ok(Charset::Latin1) => QzCharset {
+                kind: ISO_8859_1,
+                ..QzCharset::default()
+            },
+            Err(r) => QzCharset {
+                number: r.number(),
+                place: r.place(),
+                ..QzCharset::default()
+            },
+        }
+    }
+}
+
 // Reads first `a`, then `b`; `same` where type, subtype and the set of parameters agree: names in any case, values
 // after unquoting, the value of `charset` in any case.
 #[unsafe(no_mangle)]
 pub extern "C" fn qz_media_equal(a: &[u8], b: &[u8]) -> QzSame
     ensures { result ≡ same_fields (media-equality a.now b.now) }
 {
-    ffi::same_of(media_equal::equal(a, b))
+    QzSame::from(media_equal::equal(a, b))
 }
 
 // The effective charset of a media type: the value of its parameter `charset`, or none without it, for every type.
@@ -46,7 +81,7 @@ pub extern "C" fn qz_media_equal(a: &[u8], b: &[u8]) -> QzSame
 pub extern "C" fn qz_media_charset(s: &[u8]) -> QzCharset
     ensures { result ≡ charset_fields (header effective_charsets s.now) }
 {
-    charset_of(media_charset::effective_charset(s))
+    QzCharset::from(media_charset::effective_charset(s))
 }
 
 // QzCharset.kind by qz_media_charset_assuming_iso_8859_1 alone: type `text`, in any letter case, without the parameter.
@@ -58,41 +93,5 @@ pub const ISO_8859_1: u8 = 2;
 pub extern "C" fn qz_media_charset_assuming_iso_8859_1(s: &[u8]) -> QzCharset
     ensures { result ≡ charset_fields (header charsets_assuming_iso_8859_1 s.now) }
 {
-    charset_of(media_charset::charset_assuming_iso_8859_1(s))
-}
-
-fn charset_of(c: Charset) -> QzCharset
-    ensures { result ≡ charset_fields (charset_verdict c) }
-{
-    match c {
-        Charset::NotStated => charset(NO_CHARSET, 0, 0, false),
-        Charset::Stated {
-            start,
-            length,
-            quoted,
-        } => charset(STATED_CHARSET, start, length, quoted),
-        Charset::Latin1 => charset(ISO_8859_1, 0, 0, false),
-        Charset::Refused(r) => QzCharset {
-            number: r.number,
-            place: r.place,
-            kind: 0,
-            start: 0,
-            length: 0,
-            quoted: false,
-        },
-    }
-}
-
-// The charset of a media type that was read.
-fn charset(kind: u8, start: usize, length: usize, quoted: bool) -> QzCharset
-    ensures { result ≡ charset_read kind start length quoted }
-{
-    QzCharset {
-        number: 0,
-        place: 0,
-        kind,
-        start,
-        length,
-        quoted,
-    }
+    QzCharset::from(media_charset::charset_assuming_iso_8859_1(s))
 }
