@@ -165,8 +165,7 @@ impl Pieces {
     // Passes over the data of a chunk that has begun, if one has.
     fn pass_begun(self, bytes: &[u8], out: &mut [u8]) -> Pieces
         requires { Going self out.old }
-        ensures goes { Passed self bytes.now out.old result out.new }
-        ensures idle { 0 < length bytes.now → result.taken ≤ self.taken → Idle self }
+        ensures { Passed self bytes.now out.old result out.new }
     {
         match self.position {
             State::Data { left, total } => self.pass_data(left, total, self.within(bytes), out),
@@ -174,19 +173,21 @@ impl Pieces {
         }
     }
 
-    // Passes over data, or over lines of digits and what follows them; the state as it is where neither stands next.
+    // Passes over data, or over lines of digits and what follows them; the state as it is where neither stands next. It doesn't call
+    // `pass_begun`, which would then be a call of its own (pieces of one byte: 1.3 times the time).
     fn pass(self, bytes: &[u8], out: &mut [u8]) -> Pieces
         requires { Going self out.old }
         ensures goes { Passed self bytes.now out.old result out.new }
         ensures idle { 0 < length bytes.now → result.taken ≤ self.taken → Idle self }
     {
         match self.position {
+            State::Data { left, total } => self.pass_data(left, total, self.within(bytes), out),
             State::Line {
                 position: LinePos::First,
                 length: 0,
                 before,
             } => self.pass_lines(before, self.within(bytes), out),
-            _ => self.pass_begun(bytes, out),
+            _ => self,
         }
     }
 

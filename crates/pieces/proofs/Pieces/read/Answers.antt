@@ -69,8 +69,8 @@ returns-then-is_over-clause-writes c =
 
 pub loop-state-init : goal.loop-state-init
 loop-state-init c = record {
-  least = omega (arith, c.pass_begun-state.ensures.goes.taken);
-  rest = begun c.requires c.pass_begun-state.ensures.goes;
+  least = omega (arith, c.pass_begun-state.ensures.taken);
+  rest = begun c.requires c.pass_begun-state.ensures;
 }
 
 pub loop-state-preserved-then-passed-state : goal.loop-state-preserved-then-passed-state
