@@ -2,13 +2,14 @@
 #![tactic(auto)]
 
 ghost use Rattle.std.specs.Prelude.{◌≡◌, map, length};
-ghost use Rattle.ranges.specs.Reading.{reading};
+ghost use Rattle.ranges.specs.Reading.{reading, verdict, entries};
 ghost use Rattle.content_range_writer.specs.Writing.{content_range_writing, content_range_output};
-ghost use Rattle.ffi_ranges.specs.Fields.{range_fields, ranges_fields};
+ghost use Rattle.ffi_ranges.specs.Fields.{range_fields, with_table, ranges_fields};
 ghost use Rattle.ffi.specs.Fields.{written_fields};
 
 use ffi::QzWritten;
-use ranges::{Outcome, Range};
+use octets::Refusal;
+use ranges::{Range, Ranges};
 
 // A byte range: the positions of its first and its last byte, counted from 0.
 #[repr(C)]
@@ -38,6 +39,51 @@ pub const RANGES: usize = 16;
 // An entry of the table that is not used.
 const UNUSED: QzRange = QzRange { first: 0, last: 0 };
 
+// Where no range is left, or nothing was read.
+const NO_RANGES: QzRanges = QzRanges {
+    number: 0,
+    place: 0,
+    unsatisfiable: false,
+    count: 0,
+    ranges: [UNUSED; RANGES],
+};
+
+// A range, as C sees it.
+impl From<Range> for QzRange {
+    ghost from_gives = { λ r range. range ≡ range_fields r };
+
+    fn from(r: Range) -> QzRange {
+        QzRange {
+            first: r.first,
+            last: r.last,
+        }
+    }
+}
+
+// What a reader of ranges gives, as C sees it.
+impl From<Result<Option<Ranges>, Refusal>> for QzRanges {
+    ghost from_gives = { λ r ranges. ranges ≡ with_table (verdict r) (map range_fields (entries r)) };
+
+    fn from(r: Result<Option<Ranges>, Refusal>) -> QzRanges {
+        match r {
+            Ok(Some(set)) => QzRanges {
+                count: set.count,
+                ranges: set.entries.map(QzRange::from),
+                ..NO_RANGES
+            },
+            Ok(None) => QzRanges {
+                unsatisfiable: true,
+                ..NO_RANGES
+            },
+            Err(r) => QzRanges {
+                number: r.number(),
+                place: r.place(),
+                ..NO_RANGES
+            },
+        }
+    }
+}
+
 // Byte ranges: `bytes=`, then elements first-last, first- or -size with blanks around their commas only. They are resolved against an
 // entity of so many bytes: a last beyond its end is cut, a longer suffix is the whole entity, an empty range is left out. Where none is
 // left, `number` and `count` are 0 and `unsatisfiable` is set. An entity of more than 2^63 - 1 bytes is refused, before all else.
@@ -45,55 +91,7 @@ const UNUSED: QzRange = QzRange { first: 0, last: 0 };
 pub extern "C" fn qz_ranges_read(s: &[u8], entity_length: u64) -> QzRanges
     ensures { result ≡ ranges_fields (reading entity_length s.now) }
 {
-    let reading = ranges::read(s, entity_length);
-    let outcome = reading.outcome;
-    let table = reading.ranges;
-    let ranges = entries_of(table);
-    match outcome {
-        Outcome::Satisfiable(count) => QzRanges {
-            number: 0,
-            place: 0,
-            unsatisfiable: false,
-            count,
-            ranges,
-        },
-        Outcome::Unsatisfiable => QzRanges {
-            number: 0,
-            place: 0,
-            unsatisfiable: true,
-            count: 0,
-            ranges,
-        },
-        Outcome::Refused(r) => QzRanges {
-            number: r.number,
-            place: r.place,
-            unsatisfiable: false,
-            count: 0,
-            ranges,
-        },
-    }
-}
-
-// The entries of the table, one by one.
-fn entries_of(table: [Range; 16]) -> [QzRange; 16]
-    ensures { result ≡ map range_fields table }
-{
-    let mut entries = [UNUSED; 16];
-    let mut i = 0;
-    while i < RANGES {
-        entries[i] = range_of(table[i]);
-        i += 1;
-    }
-    entries
-}
-
-fn range_of(r: Range) -> QzRange
-    ensures { result ≡ range_fields r }
-{
-    QzRange {
-        first: r.first,
-        last: r.last,
-    }
+    QzRanges::from(ranges::read(s, entity_length))
 }
 
 // Writes the Content-Range value of one range, as `bytes 0-499/1234`, at most 65 bytes: first is at most last, last is below the length of
@@ -108,5 +106,5 @@ pub extern "C" fn qz_content_range_write(
     ensures answers { result ≡ written_fields (content_range_writing first last entity_length (length out.old)) }
     ensures writes { out.new ≡ content_range_output first last entity_length out.old }
 {
-    ffi::written_fields(content_range_writer::write(first, last, entity_length, out))
+    QzWritten::from(content_range_writer::write(first, last, entity_length, out))
 }

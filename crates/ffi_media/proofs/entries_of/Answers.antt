@@ -9,19 +9,16 @@ use Rattle.ffi_media.proofs.entries_of.Goals as goal
 
 pub loop-i-init : goal.loop-i-init
 unfolding converted
-loop-i-init c = (refl, omega arith)
+loop-i-init c = refl
 
 pub loop-i-preserved : goal.loop-i-preserved
 loop-i-preserved c =
     let l = c.loop-i in
-    let below = c.loop-i-test.true in
-    let full : length c.args.table ≡ 16 = search rules in (
-      one-converted parameter_fields l.i c.args.table _ _ _ _ (omega (arith, below, full)) full l.invariant.0 c.parameter_of.ensures,
-      omega (arith, below),
-    )
+    let full : length c.args.table.now ≡ 16 = search rules in
+    one-converted parameter_fields l.i c.args.table.now _ _ _ _ (omega (arith, full, c.loop-i-test.true)) full l.invariant c.from.ensures
 
 pub returns : goal.returns
 returns c =
     let l = c.loop-i in
-    let full : length c.args.table ≡ 16 = search rules in
-    l.invariant.0 ∙ all-converted parameter_fields l.i c.args.table _ (omega (arith, full, l.invariant.1, c.loop-i-test.false)) full
+    let full : length c.args.table.now ≡ 16 = search rules in
+    l.invariant ∙ all-converted parameter_fields l.i c.args.table.now _ (omega (arith, full, l.auto.i-end, c.loop-i-test.false)) full
