@@ -37,7 +37,7 @@ use Rattle.media.specs.Grammar.{SEMICOLON, EQUALS, blanks, argument, parameters,
 use Rattle.media.specs.Grammar.{attribute?, quoted?, has_name, repeats, limit, parameter_limit, entry, entries, kind, rules}
 use Rattle.media.specs.Grammar.{part_at}
 use Rattle.media.specs.Places.{Placed, PlacedParameter}
-use Rattle.media.specs.helpers.Places.{names_at, PlacedTable}
+use Rattle.media.specs.helpers.Places.{names_at}
 use Rattle.media.specs.helpers.Scan.{texts, counted, Before, parts, Found, NameAt, Attribute, Read, StepAt}
 use Rattle.media.proofs.Limits.{limit-crowded, limit-kept, attributes_with, attributes_without, limit_without}
 use Rattle.media.proofs.Limits.{texts_append, texts-length, names-length, repeats_elsewhere, repeats-behind}
@@ -241,9 +241,6 @@ module _ {s : List ℕ} where
   -- the count of the parameters, and their places as a table gives them
   pub counted_in : {m : MediaType} {ps : List Parameter} {i : ℕ} → Before s m ps i → length ps ≡ m.count
   counted_in w = ap (λ (n : MediaType). n.count) w.kinds
-
-  pub table-placed : (m : MediaType) (t : List Parameter) (i : ℕ) → Before s m (take m.count t) i → PlacedTable s m.count t
-  table-placed m t i w = record { full = counted_in w; each = w.placed }
 
   -- ### From the place behind the last one to its attribute
 

@@ -36,7 +36,8 @@ abbrev pub Found : (ℕ → Bool) → List ℕ → ℕ → Result ℕ Refusal �
 Found p s i (Ok e) =
     Stretch p s i e × (e ≤ length s) × (e < length s → p (slice_index s e) ≡ false) × (e < length s → slice_index s e ≢ code "%")
 Found p s i (Err r) =
-    (j : ℕ) × (n : ℕ) × (r ≡ Malformed ((j + 1) + n)) × Stretch p s i j × (j < length s) × (slice_index s j ≡ code "%") × Hexes s (j + 1) n × (n < 2)
+    (j : ℕ) × (n : ℕ) × (r ≡ Malformed ((j + 1) + n)) × Stretch p s i j × (j < length s) × (slice_index s j ≡ code "%")
+    × Hexes s (j + 1) n × (n < 2)
 
 -- the host begins behind the scheme
 abbrev pub host_start : ℕ

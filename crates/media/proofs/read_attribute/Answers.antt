@@ -28,8 +28,12 @@ pub returns-then-equals-s : goal.returns-then-equals-s
 returns-then-equals-s c =
     let g = c.token_end-equals in
     elim c.then-equals-s.branch [
-      | then-equals-s-via-then-equals-s h ↦ name-cut_off c.requires g.result g.ensures c.if-equals-start.false (omega (arith, counted_in c.requires.before, c.requires.before.few)) h.if-equals-s.true
-      | then-equals-s-via-else-equals-s+then-s-equals-ne61 h ↦ equals_not c.requires g.result g.ensures c.if-equals-start.false (omega (arith, counted_in c.requires.before, c.requires.before.few)) h.if-equals-s.false h.if-s-equals-ne61.true
+      | then-equals-s-via-then-equals-s h ↦
+          name-cut_off c.requires g.result g.ensures c.if-equals-start.false
+          (omega (arith, counted_in c.requires.before, c.requires.before.few)) h.if-equals-s.true
+      | then-equals-s-via-else-equals-s+then-s-equals-ne61 h ↦
+          equals_not c.requires g.result g.ensures c.if-equals-start.false
+          (omega (arith, counted_in c.requires.before, c.requires.before.few)) h.if-equals-s.false h.if-s-equals-ne61.true
     ]
 
 pub returns-then-is_among : goal.returns-then-is_among

@@ -8,8 +8,3 @@ module _ (s : List ℕ) where
   abbrev pub names_at : List Parameter → List (List ℕ)
   names_at [] = []
   names_at (p ∷ ps) = part_at s p.start p.length ∷ names_at ps
-
-  -- the first n entries of a table
-  pub record PlacedTable (n : ℕ) (table : List Parameter) : Type 0 where
-    pub full : length (take n table) ≡ n
-    pub each : Placed s (take n table)

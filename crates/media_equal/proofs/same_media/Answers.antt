@@ -28,5 +28,6 @@ pub returns : goal.returns
 returns c =
     let t = c.same_names in
     let u = c.has_parameters in
-    c.has_parameters-2.ensures ∙ forth c.args.b.now c.args.a.now _ _ _ _ c.used-3.ensures c.used-4.ensures ∙ holds u.result _ _ (u.ensures ∙ forth c.args.a.now c.args.b.now _ _ _ _ c.used.ensures c.used-2.ensures) c.if-not-has_parameters.false
+    c.has_parameters-2.ensures ∙ forth c.args.b.now c.args.a.now _ _ _ _ c.used-3.ensures c.used-4.ensures
+    ∙ holds u.result _ _ (u.ensures ∙ forth c.args.a.now c.args.b.now _ _ _ _ c.used.ensures c.used-2.ensures) c.if-not-has_parameters.false
     ∙ holds t.result _ _ t.ensures c.if-not-same_names.false
