@@ -1,8 +1,7 @@
 -- For the contracts of the helpers that compare names at their places.
-use Rattle.std.specs.Prelude.{ℕ, ◌≡◌, List, [], ◌∷◌, length, take}
+use Rattle.std.specs.Prelude.{ℕ, List, [], ◌∷◌}
 use Rattle.media.specs.declared.Parameter.{Parameter}
 use Rattle.media.specs.Grammar.{part_at}
-use Rattle.media.specs.Places.{Placed}
 
 module _ (s : List ℕ) where
   abbrev pub names_at : List Parameter → List (List ℕ)
