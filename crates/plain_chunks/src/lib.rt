@@ -8,7 +8,7 @@ ghost use Rattle.size_lines.specs.helpers.Lines.{PlainSize};
 ghost use Rattle.size_lines.specs.helpers.Words.{word as word_of, ShortOf};
 ghost use Rattle.plain_chunks.specs.helpers.Runs.{FrontOf, PlainChunk, Passed};
 
-use size_lines::{Plain, Short};
+use size_lines::{Short, SizeLine};
 
 // How many bytes were passed over, and the data: with that of the chunk whose line is the last of them, if one is. Its size is above zero.
 // Numbers, not a state: that takes 0.95 of the time at chunks of 16.
@@ -22,15 +22,14 @@ pub struct Run {
 // A chunk with a line of digits alone: it lies whole in the bytes, or only its line does. Or any other.
 #[derive(Clone, Copy)]
 enum Chunk {
-    Whole { value: usize, length: usize },
-    Begun { value: usize, length: usize },
+    Whole(SizeLine),
+    Begun(SizeLine),
     Other,
 }
 
 const NO_LINE: Short = Short {
     word: 0,
-    length: 0,
-    size: 0,
+    line: None,
 };
 
 // From the start of a line behind `before` bytes of data: over chunks that lie whole in the bytes, and over the line of the next. Their
@@ -40,44 +39,37 @@ pub fn pass(before: usize, bytes: &[u8], out: &mut [u8]) -> Run
 {
     let room = out.len();
     if before > room {
-        return at_line(before, 0);
+        return Run {
+            taken: 0,
+            total: before,
+            size: 0,
+        };
     }
     let mut at = 0;
     let mut total = before;
-    let mut line = NO_LINE;
+    let mut last = NO_LINE;
+    // a cursor: a turn passes over one chunk
     while at < bytes.len() {
-        line = short_line(&bytes[at..], line);
-        match plain_chunk(&bytes[at..], room - total, line) {
-            Chunk::Whole { value, length } => {
-                let data = at + length;
-                put_data(&bytes[data..data + value], out, total);
-                at = data + value + 2;
-                total += value;
+        last = short_line(&bytes[at..], last);
+        match plain_chunk(&bytes[at..], room - total, last) {
+            Chunk::Whole(line) => {
+                let data = at + line.length;
+                put_data(&bytes[data..data + line.size], out, total);
+                at = data + line.size + 2;
+                total += line.size;
             }
-            Chunk::Begun { value, length } => {
-                return at_data(value, total + value, at + length);
+            Chunk::Begun(line) => {
+                return Run {
+                    taken: at + line.length,
+                    total: total + line.size,
+                    size: line.size,
+                };
             }
-            Chunk::Other => {
-                return at_line(total, at);
-            }
+            Chunk::Other => break,
         }
     }
-    at_line(total, at)
-}
-
-// Before the data of a chunk, with which there are `total` bytes.
-fn at_data(size: usize, total: usize, taken: usize) -> Run
-    ensures { result ≡ record { taken = taken; total = total; size = size } }
-{
-    Run { taken, total, size }
-}
-
-// At the start of the next line.
-fn at_line(total: usize, taken: usize) -> Run
-    ensures { result ≡ record { taken = taken; total = total; size = 0 } }
-{
     Run {
-        taken,
+        taken: at,
         total,
         size: 0,
     }
@@ -104,46 +96,37 @@ fn front_word(bytes: &[u8]) -> u32
     requires { 4 ≤ length bytes.now }
     ensures { result ≡ word_of bytes.now }
 {
-    let low = bytes[0] as u32 + bytes[1] as u32 * 256;
-    let high = bytes[2] as u32 + bytes[3] as u32 * 256;
-    low + high * 65536
+    u32::from_le_bytes([bytes[0], bytes[1], bytes[2], bytes[3]])
 }
 
-// A chunk at the front of the bytes with a line of digits alone; `line` is the short one, if there is one.
-fn plain_chunk(bytes: &[u8], left: usize, line: Short) -> Chunk
-    requires { ShortOf line × FrontOf bytes.now line }
+// A chunk at the front of the bytes with a line of digits alone; `short` is its short line, if it has one.
+fn plain_chunk(bytes: &[u8], left: usize, short: Short) -> Chunk
+    requires { ShortOf short × FrontOf bytes.now short }
     ensures { PlainChunk bytes.now left result }
 {
-    if line.length > 0 {
-        if line.size <= left {
-            return ended_chunk(bytes, line.size, line.length, left);
-        }
-    }
-    match size_lines::plain_line(bytes, left) {
-        Plain::Size { value, length } => ended_chunk(bytes, value, length, left),
-        Plain::Other => Chunk::Other,
+    match short.line {
+        Some(line) if line.size <= left => ended_chunk(bytes, line, left),
+        _ => match size_lines::plain_line(bytes, left) {
+            Some(line) => ended_chunk(bytes, line, left),
+            None => Chunk::Other,
+        },
     }
 }
 
 // Behind its line.
-fn ended_chunk(bytes: &[u8], value: usize, length: usize, left: usize) -> Chunk
-    requires { PlainSize bytes.now left value length }
+fn ended_chunk(bytes: &[u8], line: SizeLine, left: usize) -> Chunk
+    requires { PlainSize bytes.now left line.size line.length }
     ensures { PlainChunk bytes.now left result }
 {
-    let behind = bytes.len() - length;
-    if behind < 2 {
-        return Chunk::Begun { value, length };
+    let behind = &bytes[line.length..];
+    if behind.len() < 2
+        || line.size > behind.len() - 2
+        || behind[line.size] != b'\r'
+        || behind[line.size + 1] != b'\n'
+    {
+        return Chunk::Begun(line);
     }
-    if value > behind - 2 {
-        return Chunk::Begun { value, length };
-    }
-    if bytes[length + value] != b'\r' {
-        return Chunk::Begun { value, length };
-    }
-    if bytes[length + value + 1] != b'\n' {
-        return Chunk::Begun { value, length };
-    }
-    Chunk::Whole { value, length }
+    Chunk::Whole(line)
 }
 
 // Puts the data of a whole chunk at a place where it fits.

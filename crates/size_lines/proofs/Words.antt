@@ -1,6 +1,7 @@
 -- Short chunk lines, by their first four bytes.
 use mathlib.Core.Path.{◌≡◌, refl, ◌∙◌, ap}
 use mathlib.Core.Bool.{cond}
+use Rattle.std.specs.Prelude.{Some}
 use mathlib.Core.List.{List, [], ◌∷◌}
 use Prim.Native.Nat.{ℕ, zero, suc, ◌+◌, ◌-◌, ◌*◌, ◌/◌, ◌%◌, ◌<◌, ◌≤◌}
 use native.Mathlib.Omega.{arith}
@@ -8,10 +9,7 @@ use lib.ListN.{length, get_or}
 use Rattle.octets.specs.Bytes.{hex?, hex_value}
 use Rattle.chunked.specs.helpers.Passes.{LineAt, CrlfAt, HasSecond}
 use Rattle.chunked.proofs.Short.{short-line}
-use Rattle.size_lines.specs.helpers.Words.{word, ShortOf}
-
-pub short_none : {w v : ℕ} → ShortOf (record { word = w; length = 0; size = v })
-short_none = record { is = λ xs o l e h. absurd (omega arith) }
+use Rattle.size_lines.specs.helpers.Words.{word, LineOf}
 
 -- the value of a byte, as a hex digit
 abbrev valued : ℕ → ℕ
@@ -23,10 +21,8 @@ lowest n b m e l = omega arith
 -- by the values of its digits, one or two, and the two bytes behind them
 pub word_line : (w : ℕ) {d e n c r : ℕ} → d ≡ valued (w % 256) → e ≡ valued (w / 256 % 256) → HasSecond (w / 256 % 256) n → d ≤ 15
     → e / 16 + n ≡ 1 → (n ≡ 0 → c ≡ w / 256 % 65536) × (n ≡ 1 → c ≡ w / 65536) → c ≡ 2573
-    → (n ≡ 0 → r ≡ d) → (n ≡ 1 → r ≡ d * 16 + e) → 0 < r → ShortOf (record { word = w; length = 3 + n; size = r })
-word_line w {d} {e} {n} {c} {r} f g s few digits ends is one two pos = record {
-  is = λ xs o l same h. (pos, line xs o l same);
-}
+    → (n ≡ 0 → r ≡ d) → (n ≡ 1 → r ≡ d * 16 + e) → 0 < r → LineOf w (Some (record { size = r; length = 3 + n }))
+word_line w {d} {e} {n} {c} {r} f g s few digits ends is one two pos = λ xs o l same. (pos, line xs o l same)
   where
     crlf-at : (xs : List ℕ) → ((k : ℕ) → get_or xs k 0 < 256) → 4 ≤ length xs → w ≡ word xs → (k : ℕ) → k ≤ 1
         → (k ≡ 0 → c ≡ w / 256 % 65536) × (k ≡ 1 → c ≡ w / 65536) → CrlfAt xs (0 + (3 + k) - 2)

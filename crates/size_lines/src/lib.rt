@@ -8,20 +8,18 @@ ghost use Rattle.size_lines.specs.helpers.Words.{ShortOf};
 
 use framing::LINE_LIMIT;
 
-// A line of digits alone: the size that it gives, above zero, and its bytes with CR LF. Or any other.
+// A line of digits alone: the size that it gives, above zero, and its bytes with CR LF.
 #[derive(Clone, Copy)]
-pub enum Plain {
-    Size { value: usize, length: usize },
-    Other,
+pub struct SizeLine {
+    pub size: usize,
+    pub length: usize,
 }
 
-// A line by its first four bytes as one number, where it is one or two digits and CR LF: its bytes with CR LF, and the size that it gives,
-// above zero. No bytes: it is another line.
+// What four bytes, as one number, begin with: a line of one or two digits and CR LF, or another.
 #[derive(Clone, Copy)]
 pub struct Short {
     pub word: u32,
-    pub length: usize,
-    pub size: usize,
+    pub line: Option<SizeLine>,
 }
 
 // CR and LF as one number, CR the lower byte.
@@ -31,59 +29,40 @@ const CRLF: u32 = 0x0a0d;
 pub fn read_word(word: u32) -> Short
     ensures { ShortOf result × (result.word ≡ word) }
 {
-    let other = Short {
-        word,
-        length: 0,
-        size: 0,
-    };
     let byte = (word / 256 % 256) as u8;
     let first = octets::hex_value((word % 256) as u8) as usize;
     let second = octets::hex_value(byte) as usize;
     let two = has_second(byte);
-    if first > 15 {
-        return other;
-    }
-    if second / 16 + two != 1 {
-        return other;
-    }
-    if line_end(word, two) != CRLF {
-        return other;
+    if first > 15 || second / 16 + two != 1 || line_end(word, two) != CRLF {
+        return Short { word, line: None };
     }
     let size = short_size(first, second, two);
     if size == 0 {
-        return other;
+        return Short { word, line: None };
     }
+    let length = 3 + two;
     Short {
         word,
-        length: 3 + two,
-        size,
+        line: Some(SizeLine { size, length }),
     }
 }
 
 // A chunk line of digits alone at the front of the bytes, with its CR LF, that gives a size above zero and at most `left`.
-pub fn plain_line(bytes: &[u8], left: usize) -> Plain
+pub fn plain_line(bytes: &[u8], left: usize) -> Option<SizeLine>
     ensures { PlainLine bytes.now left result }
 {
-    let mut value = 0;
-    let mut at = 0;
-    while at < bytes.len() {
-        let digit = octets::hex_value(bytes[at]) as usize;
+    let mut size = 0;
+    for (at, b) in bytes.iter().enumerate() {
+        let digit = octets::hex_value(*b) as usize;
         if digit > 15 {
-            return ended_line(bytes, at, value, left);
+            return ended_line(bytes, at, size, left);
         }
-        if at == LINE_LIMIT {
-            return Plain::Other;
+        if at == LINE_LIMIT || size > left / 16 || digit > left - size * 16 {
+            return None;
         }
-        if value > left / 16 {
-            return Plain::Other;
-        }
-        if digit > left - value * 16 {
-            return Plain::Other;
-        }
-        value = value * 16 + digit;
-        at += 1;
+        size = size * 16 + digit;
     }
-    Plain::Other
+    None
 }
 
 // 1 where the byte behind the first digit may be a second one, 0 where it is CR.
@@ -113,24 +92,13 @@ fn short_size(first: usize, second: usize, two: usize) -> usize
 }
 
 // Behind its digits.
-fn ended_line(bytes: &[u8], at: usize, value: usize, left: usize) -> Plain
-    requires { InDigits bytes.now left at value }
+fn ended_line(bytes: &[u8], at: usize, size: usize, left: usize) -> Option<SizeLine>
+    requires { InDigits bytes.now left at size }
     ensures { PlainLine bytes.now left result }
 {
-    if value == 0 {
-        return Plain::Other;
+    if size == 0 || bytes.len() - at < 2 || bytes[at] != b'\r' || bytes[at + 1] != b'\n' {
+        return None;
     }
-    if bytes.len() - at < 2 {
-        return Plain::Other;
-    }
-    if bytes[at] != b'\r' {
-        return Plain::Other;
-    }
-    if bytes[at + 1] != b'\n' {
-        return Plain::Other;
-    }
-    Plain::Size {
-        value,
-        length: at + 2,
-    }
+    let length = at + 2;
+    Some(SizeLine { size, length })
 }

@@ -1,5 +1,5 @@
 -- Chunks that the code passes over at once. Definitions for the contracts.
-use Rattle.std.specs.Prelude.{◌≡◌, cond, List, ℕ, ◌+◌, ◌-◌, ◌<◌, ◌≤◌, eqb, length, take}
+use Rattle.std.specs.Prelude.{◌≡◌, cond, List, Option, Some, None, ℕ, ◌+◌, ◌-◌, ◌≤◌, eqb, length, take}
 use Rattle.text.specs.Placing.{placed}
 use Rattle.framing.specs.declared.LinePos.TheVariants.{First}
 use Rattle.framing.specs.declared.State.{State}
@@ -9,6 +9,7 @@ use Rattle.framing.specs.helpers.Machine.{step, emit}
 use Rattle.framing.specs.helpers.Scan.{run, out, Quiet}
 use Rattle.chunked.specs.helpers.Passes.{CrlfAt}
 use Rattle.size_lines.specs.declared.Short.{Short}
+use Rattle.size_lines.specs.declared.SizeLine.{SizeLine}
 use Rattle.size_lines.specs.helpers.Lines.{PlainSize}
 use Rattle.size_lines.specs.helpers.Words.{word}
 use Rattle.plain_chunks.specs.declared.Run.{Run}
@@ -26,12 +27,15 @@ pub record Passed (t : ℕ) (bytes old : List ℕ) (r : Run) (new : List ℕ) : 
   pub wrote : new ≡ placed old t (out step emit (Line First 0 t) (take r.taken bytes))
 
 -- where a line was read, the bytes begin with its four
-pub record FrontOf (xs : List ℕ) (line : Short) : Type 0 where
-  pub long : 0 < line.length → 4 ≤ length xs
-  pub same : 0 < line.length → line.word ≡ word xs
+abbrev pub FrontIf : List ℕ → ℕ → Option SizeLine → Type 0
+FrontIf xs w (Some l) = (4 ≤ length xs) × (w ≡ word xs)
+FrontIf xs w None = Unit {0}
+
+abbrev pub FrontOf : List ℕ → Short → Type 0
+FrontOf xs s = FrontIf xs s.word s.line
 
 -- a chunk whose line is digits alone
 abbrev pub PlainChunk : List ℕ → ℕ → Chunk → Type 0
-PlainChunk bytes left (Chunk.Whole v n) = PlainSize bytes left v n × CrlfAt bytes (n + v)
-PlainChunk bytes left (Chunk.Begun v n) = PlainSize bytes left v n
+PlainChunk bytes left (Chunk.Whole l) = PlainSize bytes left l.size l.length × CrlfAt bytes (l.length + l.size)
+PlainChunk bytes left (Chunk.Begun l) = PlainSize bytes left l.size l.length
 PlainChunk bytes left Chunk.Other = Unit {0}

@@ -1,7 +1,7 @@
 -- `size_lines::read_word` meets its contract.
 use mathlib.Core.Path.{refl}
 use native.Mathlib.Omega.{arith}
-use Rattle.size_lines.proofs.Words.{short_none, word_line}
+use Rattle.size_lines.proofs.Words.{word_line}
 use Rattle.size_lines.proofs.read_word.Goals as goal
 
 pub returns : goal.returns
@@ -12,15 +12,3 @@ returns c =
           (omega arith) (omega arith) e.ensures (omega arith) z.ensures.1 z.ensures.2 (omega arith),
       refl,
     )
-
-pub returns-then-first-gt15 : goal.returns-then-first-gt15
-returns-then-first-gt15 c = (short_none, refl)
-
-pub returns-then-second-two-ne1 : goal.returns-then-second-two-ne1
-returns-then-second-two-ne1 c = (short_none, refl)
-
-pub returns-then-line_end-ne-CRLF : goal.returns-then-line_end-ne-CRLF
-returns-then-line_end-ne-CRLF c = (short_none, refl)
-
-pub returns-then-size-eq0 : goal.returns-then-size-eq0
-returns-then-size-eq0 c = (short_none, refl)

@@ -1,9 +1,9 @@
 -- Chunk lines of digits alone, at the front of bytes. Definitions for the contracts.
-use Rattle.std.specs.Prelude.{◌≡◌, List, ◌++◌, ℕ, ◌<◌, ◌≤◌, length, take}
+use Rattle.std.specs.Prelude.{◌≡◌, List, ◌++◌, Option, Some, None, ℕ, ◌<◌, ◌≤◌, length, take}
 use Rattle.octets.specs.Bytes.{hex?}
 use Rattle.framing.specs.Grammar as G
 use Rattle.framing.specs.Grammar.{crlf, Many, hex_value_from, LINE_LIMIT}
-use Rattle.size_lines.specs.declared.Plain.{Plain}
+use Rattle.size_lines.specs.declared.SizeLine.{SizeLine}
 
 -- the first `at` bytes are digits of that value
 pub record InDigits (bytes : List ℕ) (left at value : ℕ) : Type 0 where
@@ -23,6 +23,6 @@ pub record PlainSize (bytes : List ℕ) (left v n : ℕ) : Type 0 where
   pub line : G.Line text v
   pub short : length text ≤ LINE_LIMIT
 
-abbrev pub PlainLine : List ℕ → ℕ → Plain → Type 0
-PlainLine bytes left (Plain.Size v n) = PlainSize bytes left v n
-PlainLine bytes left Plain.Other = Unit {0}
+abbrev pub PlainLine : List ℕ → ℕ → Option SizeLine → Type 0
+PlainLine bytes left (Some l) = PlainSize bytes left l.size l.length
+PlainLine bytes left None = Unit {0}
