@@ -43,8 +43,6 @@ impl From<Result<Date, Refusal>> for QzDate {
     fn from(d: Result<Date, Refusal>) -> QzDate {
         match d {
             Ok(d) => QzDate {
-                number: 0,
-                place: 0,
                 seconds: d.seconds,
                 year: d.fields.year,
                 month: d.fields.month,
@@ -52,6 +50,7 @@ impl From<Result<Date, Refusal>> for QzDate {
                 hour: d.fields.hour,
                 minute: d.fields.minute,
                 second: d.fields.second,
+                ..QzDate::default()
             },
             Err(r) => QzDate {
                 number: r.number(),

@@ -43,11 +43,13 @@ impl From<Result<Charset, Refusal>> for QzCharset {
                 kind: NO_CHARSET,
                 ..QzCharset::default()
             },
-            Ok(Charset::Stated {
-                start,
-                length,
-                quoted,
-            }) => QzCharset {
+            Ok(
+                Charset::Stated {
+                    start,
+                    length,
+                    quoted,
+                },
+            ) => QzCharset {
                 kind: STATED_CHARSET,
                 start,
                 length,
