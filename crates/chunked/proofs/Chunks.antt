@@ -1,6 +1,6 @@
 -- Over a chunk at a stroke: its line, where that is known to be one, its data, and the CR LF behind it.
 use Rattle.std.proofs.Common.{◌≡◌, ℕ, ◌+◌, ◌-◌, ◌<◌, ◌≤◌, List, [], ◌∷◌, length, get_or, take, drop, sym, ◌∙◌, subst, arith, length-drop}
-use Rattle.std.proofs.Common.{length-take-le}
+use Rattle.std.proofs.Common.{length-take-le, Ok}
 use native.Mathlib.Decide.{dec_le}
 use Rattle.framing.specs.Answer as Framing
 use Rattle.framing.specs.declared.LinePos.TheVariants.{First}
@@ -12,7 +12,6 @@ use Rattle.chunked.specs.declared.Answer.TheVariants.{Whole, More, Refused}
 use Rattle.chunked.specs.declared.Ending.{Ending}
 use Rattle.chunked.specs.declared.ChunkLine.{ChunkLine}
 use Rattle.chunked.specs.declared.Run.{Run}
-use Rattle.chunked.specs.declared.Found.TheVariants as Found
 use Rattle.chunked.specs.helpers.Passes.{At, LineAt, LineRead, Known, CrlfAt, ChunkAt, ChunkRead}
 use Rattle.chunked.specs.helpers.Passes.{Plain, SameAt, ChunksTo, no_chunk, chunk_then, InChunks, ending_answer, Reached}
 use Rattle.framing.proofs.Passing.{Passes, octets_part, passes-size, passes_data, passes-part}
@@ -91,6 +90,12 @@ module _ {xs : List ℕ} where
   pub chunk-known : {i w v : ℕ} → ChunkAt xs i w v → Known xs (record { at = i; length = w; size = v })
   chunk-known {i} {w} {v} c = record { inside = λ _. omega (arith, c.end.inside); line = λ _. (c.some, c.line) }
 
+  pub read-known : {line : ChunkLine} {i : ℕ} → line.at ≡ i → ChunkAt xs i line.length line.size → Known xs line
+  read-known {line} e c = record {
+    inside = λ h. omega (arith, e, c.end.inside);
+    line = λ h. (c.some, subst (λ (k : ℕ). LineAt xs k line.length line.size (13 ∷ 10 ∷ [])) (sym e) c.line);
+  }
+
   -- the same bytes are the same line
   pub same-line-at : {last : ChunkLine} {i : ℕ} → Known xs last → 0 < last.length → i + last.length ≤ length xs
       → SameAt xs last.at i last.length → LineAt xs i last.length last.size (13 ∷ 10 ∷ [])
@@ -104,21 +109,15 @@ module _ {xs : List ℕ} where
       record { some = (known.line h).0; line = same-line-at known h (omega (arith, end.inside)) same; end = end }
 
 -- a line that was read, its data and CR LF
-pub chunk_read : (room : ℕ) (xs : List ℕ) (i t v j : ℕ) → LineRead room xs i t (Found.Data v j) → j + v + 2 ≤ length xs
-    → get_or xs (j + v) 0 ≡ 13 → get_or xs (j + v + 1) 0 ≡ 10 → ChunkRead room xs i t (Found.Data v j)
-chunk_read room xs i t v j r h cr lf =
-    let k : j + v ≡ i + (j - i + v) = omega (arith, r.1) in (
-      r.1,
+pub chunk_read : (room : ℕ) (xs : List ℕ) (i t : ℕ) (line : ChunkLine) → LineRead room xs i t (Ok line)
+    → i + line.length + line.size + 2 ≤ length xs → get_or xs (i + line.length + line.size) 0 ≡ 13
+    → get_or xs (i + line.length + line.size + 1) 0 ≡ 10 → ChunkRead room xs i t (Ok line)
+chunk_read room xs i t line r h cr lf =
+    let k : i + line.length + line.size ≡ i + (line.length + line.size) = omega arith in (
+      r.0,
       data_fits r.2,
-      record { some = r.0; line = r.3; end = subst (CrlfAt xs) k (record { inside = h; cr = cr; lf = lf }) },
+      record { some = r.1; line = r.3; end = subst (CrlfAt xs) k (record { inside = h; cr = cr; lf = lf }) },
     )
-
--- over a chunk that was read
-pub read-chunk-on : {room : ℕ} {xs : List ℕ} {i t v j : ℕ} → ((k : ℕ) → get_or xs k 0 < 256) → At room xs (Line First 0 t) i → i ≤ j
-    → t + v ≤ room → ChunkAt xs i (j - i) v → At room xs (Line First 0 (t + v)) (j + v + 2)
-read-chunk-on {room} {xs} {i} {t} {v} {j} bytes at h fits c =
-    let k : i + (j - i) + v + 2 ≡ j + v + 2 = omega arith in
-    subst (At room xs (Line First 0 (t + v))) k (chunk-on bytes at c fits)
 
 -- ## Chunks one after the other
 module _ {xs : List ℕ} where
@@ -129,11 +128,6 @@ module _ {xs : List ℕ} where
   chunk-more {i} {j} {w = w} {v = v} (chunk_then {v = u} {n = m} d h) c =
       let e : u + (m + v) ≡ u + m + v = omega arith in
       subst (ChunksTo xs i (j + w + v + 2)) e (chunk_then d (chunk-more h c))
-
-  pub read-chunk-more : {i j k n v : ℕ} → ChunksTo xs i j n → j ≤ k → ChunkAt xs j (k - j) v → ChunksTo xs i (k + v + 2) (n + v)
-  read-chunk-more {i} {j} {k} {n} {v} h le c =
-      let e : j + (k - j) + v + 2 ≡ k + v + 2 = omega arith in
-      subst (λ (m : ℕ). ChunksTo xs i m (n + v)) e (chunk-more h c)
 
   -- what they hold lies in the bytes
   pub chunks-inside : {i j n : ℕ} → ChunksTo xs i j n → i ≤ length xs → i + n ≤ length xs

@@ -214,3 +214,8 @@ module _ (xs old : List ℕ) where
     kept-refused {r} f =
         ap (λ (z : List ℕ). z ++ drop (length z) old)
         (sym (demands.keeps_refused (length old) xs (number_of r) (place_of r) (sym e ∙ ap verdict f)))
+
+  pub kept-other : (a : Answer) → verdict a ≡ decode (length old) xs → ((w : Whole) → a ≡ Answer.Whole w → ⊥) → old ≡ decode_output xs old
+  kept-other (Answer.Whole w) e other = absurd (other w refl)
+  kept-other More e other = kept_more e refl
+  kept-other (Refused r) e other = kept-refused e refl

@@ -35,14 +35,8 @@ enum Ending {
     Refused(Refusal),
 }
 
-// What a chunk line comes to: the size and the place of the data behind it, or the end of reading.
-#[derive(Clone, Copy)]
-enum Found {
-    Data { size: usize, start: usize },
-    Over(Ending),
-}
-
-// A chunk line that was read: its place, its bytes with CR LF, and its size. No bytes: none was read.
+// A chunk line that was read: its place, its bytes with CR LF, and its size. No bytes: none was read. It and `Tail` stand in no `Option`:
+// with one, 1.1 times the instructions at chunks of 1 to 64.
 #[derive(Clone, Copy)]
 struct ChunkLine {
     at: usize,
@@ -103,17 +97,11 @@ pub fn decode(input: &[u8], out: &mut [u8]) -> Answer
     ensures answers { verdict result ≡ decodeIn (length out.old) input.now }
     ensures writes { out.new ≡ decode_output input.now out.old }
 {
-    let decided = decide(input, out.len());
-    let answer = decided.answer;
-    match answer {
-        Answer::Whole(body) => {
-            let last = decided.last;
-            copy(input, out, body.length, last);
-            answer
-        }
-        Answer::More => answer,
-        Answer::Refused(_) => answer,
+    let Decided { answer, last } = decide(input, out.len());
+    if let Answer::Whole(body) = answer {
+        copy(input, out, body.length, last);
     }
+    answer
 }
 
 // The answer alone: the first pass. Data is never looked at. What a quick path passes over is not looked at again; where it stands still,
@@ -124,10 +112,8 @@ fn decide(input: &[u8], room: usize) -> Decided
 {
     let mut run = START;
     loop {
-        let at = run.at;
-        let total = run.total;
+        let Run { at, total, last } = run;
         if last_line(input, at) {
-            let last = run.last;
             let answer = ending_answer(closing(input, at + 3, total, room), total);
             return Decided { answer, last };
         }
@@ -136,21 +122,16 @@ fn decide(input: &[u8], room: usize) -> Decided
             run = next;
         } else {
             match chunk(input, at, total, room) {
-                Found::Over(ending) => {
-                    let answer = ending_answer(ending, total);
-                    let last = run.last;
-                    return Decided { answer, last };
-                }
-                Found::Data { size, start } => {
-                    let length = start - at;
-                    let last = ChunkLine { at, length, size };
-                    let end = start + size + 2;
-                    let total = total + size;
+                Ok(last) => {
                     run = Run {
-                        at: end,
-                        total,
+                        at: at + last.length + last.size + 2,
+                        total: total + last.size,
                         last,
-                    };
+                    }
+                }
+                Err(ending) => {
+                    let answer = ending_answer(ending, total);
+                    return Decided { answer, last };
                 }
             }
         }
@@ -164,12 +145,16 @@ fn quick_chunks(input: &[u8], run: Run, room: usize) -> Run
     ensures { Reached room input.now result × (run.at ≤ result.at) }
 {
     let next = same_chunks(input, run, room);
-    let last = run.last;
-    let tail = tail_of(input, last);
+    let tail = tail_of(input, run.last);
     if tail.length > 0 {
-        return tailed_chunks(input, tail, next, room);
+        return read_chunks(
+            input,
+            next,
+            room,
+            |at, left| tailed_chunk(input, tail, at, left),
+        );
     }
-    short_chunks(input, next, room)
+    read_chunks(input, next, room, |at, left| short_chunk(input, at, left))
 }
 
 // Passes over chunks with the line of the last one.
@@ -187,40 +172,24 @@ fn same_chunks(input: &[u8], run: Run, room: usize) -> Run
     Run { at, total, last }
 }
 
-// Passes over chunks with short lines, up to one that has the size of the one before: its line may come again.
-fn short_chunks(input: &[u8], run: Run, room: usize) -> Run
-    requires { Reached room input.now run }
+// Passes over chunks with lines that `read` finds at a place, with what is left of the room, up to one that has the size of the one before:
+// its line may come again.
+fn read_chunks<F: Fn(usize, usize) -> ChunkLine>(
+    input: &[u8],
+    run: Run,
+    room: usize,
+    read: F,
+) -> Run
+    requires reached { Reached room input.now run }
+    requires callable { (at left : ℕ) → at ≤ length input.now → F.pre read at left }
+    requires reads { (at left : ℕ) (line : ChunkLine) → at ≤ length input.now → F.post read at left line → Plain input.now at left line }
     ensures { Reached room input.now result × (run.at ≤ result.at) }
 {
     let mut at = run.at;
     let mut left = room - run.total;
     let mut size = 0;
     loop {
-        let last = short_chunk(input, at, left);
-        if last.length == 0 {
-            let total = room - left;
-            return Run { at, total, last };
-        }
-        at = at + last.length + last.size + 2;
-        left -= last.size;
-        if last.size == size {
-            let total = room - left;
-            return Run { at, total, last };
-        }
-        size = last.size;
-    }
-}
-
-// The same, with that tail behind the digits.
-fn tailed_chunks(input: &[u8], tail: Tail, run: Run, room: usize) -> Run
-    requires { Reached room input.now run × TailAt input.now tail.at tail.length }
-    ensures { Reached room input.now result × (run.at ≤ result.at) }
-{
-    let mut at = run.at;
-    let mut left = room - run.total;
-    let mut size = 0;
-    loop {
-        let last = tailed_chunk(input, tail, at, left);
+        let last = read(at, left);
         if last.length == 0 {
             let total = room - left;
             return Run { at, total, last };
@@ -274,21 +243,18 @@ fn put_data(
     requires { (written + size ≤ len) × (len ≤ length out.old) × (start + (len - written) ≤ length input.now) }
     ensures { Laid input.now out.old out.new start written size len }
 {
-    if one_width {
-        if size <= WIDE {
-            if len - written >= WIDE {
-                copying::copy(
-                    &mut out[written..written + WIDE],
-                    &input[start..start + WIDE],
-                );
-                return;
-            }
-        }
+    let left = len - written;
+    if one_width && size <= WIDE && left >= WIDE {
+        copying::copy(
+            &mut out[written..written + WIDE],
+            &input[start..start + WIDE],
+        );
+    } else {
+        copying::copy_long(
+            &mut out[written..written + size],
+            &input[start..start + size],
+        );
     }
-    copying::copy_long(
-        &mut out[written..written + size],
-        &input[start..start + size],
-    );
 }
 
 // The line of the chunk at `at`, which the first pass has read, if it is the last line again, or one or two digits before CR LF or before
@@ -315,10 +281,7 @@ fn repeats(input: &[u8], last: ChunkLine, at: usize) -> bool
     requires { Known input.now last × SomeChunk input.now at }
     ensures { result ≡ true → ChunkAt input.now at last.length last.size }
 {
-    if last.length == 0 {
-        return false;
-    }
-    if input.len() - at < last.length {
+    if last.length == 0 || input.len() - at < last.length {
         return false;
     }
     same_line(input, last.at, at, last.length)
@@ -331,11 +294,7 @@ fn remembered(line: ChunkLine, size: usize) -> ChunkLine
     if line.size == size {
         return line;
     }
-    ChunkLine {
-        at: line.at,
-        length: 0,
-        size: line.size,
-    }
+    ChunkLine { length: 0, ..line }
 }
 
 // Does a chunk with the same line as the last one stand at `at` and fit into what is left of the room? Then nothing waits for the
@@ -344,20 +303,10 @@ fn again(input: &[u8], last: ChunkLine, at: usize, left: usize) -> bool
     requires { (at ≤ length input.now) × Known input.now last }
     ensures { result ≡ true → (last.size ≤ left) × ChunkAt input.now at last.length last.size }
 {
-    if last.length == 0 {
-        return false;
-    }
-    if left < last.size {
-        return false;
-    }
     let taken = last.length + last.size;
-    if input.len() - at < taken + 2 {
-        return false;
-    }
-    if !crlf_at(input, at + taken) {
-        return false;
-    }
-    same_line(input, last.at, at, last.length)
+    last.length > 0
+        && has_data(input, at, taken, last.size, left)
+        && same_line(input, last.at, at, last.length)
 }
 
 // Are the lines of `count` bytes at `a` and at `b` the same? Most have 4 to 8 bytes: two words, which may overlap, are all of them (with
@@ -366,24 +315,11 @@ fn same_line(input: &[u8], a: usize, b: usize, count: usize) -> bool
     requires { (a + count ≤ length input.now) × (b + count ≤ length input.now) }
     ensures { result ≡ true → SameAt input.now a b count }
 {
-    if count < 4 {
-        return same_bytes(input, a, b, count);
-    }
-    if count > 8 {
-        return same_bytes(input, a, b, count);
-    }
-    if word(input, a) != word(input, b) {
-        return false;
+    if count < 4 || count > 8 {
+        return input[a..a + count] == input[b..b + count];
     }
     let rest = count - 4;
-    word(input, a + rest) == word(input, b + rest)
-}
-
-fn same_bytes(input: &[u8], a: usize, b: usize, count: usize) -> bool
-    requires { (a + count ≤ length input.now) × (b + count ≤ length input.now) }
-    ensures { result ≡ true → SameAt input.now a b count }
-{
-    octets::same(&input[a..a + count], &input[b..b + count])
+    word(input, a) == word(input, b) && word(input, a + rest) == word(input, b + rest)
 }
 
 // Four bytes as one number, which is loaded whole.
@@ -391,9 +327,7 @@ fn word(input: &[u8], at: usize) -> u32
     requires { at + 4 ≤ length input.now }
     ensures { result ≡ word_at input.now at }
 {
-    let low = input[at] as u32 + input[at + 1] as u32 * 0x100;
-    let high = input[at + 2] as u32 + input[at + 3] as u32 * 0x100;
-    low + high * 0x10000
+    u32::from_le_bytes([input[at], input[at + 1], input[at + 2], input[at + 3]])
 }
 
 // A chunk whose line is one or two digits and CR LF, the first digit not 0. No branch asks how many digits there are, which at chunks of
@@ -402,11 +336,7 @@ fn short_chunk(input: &[u8], at: usize, left: usize) -> ChunkLine
     requires { at ≤ length input.now }
     ensures { Plain input.now at left result }
 {
-    let rest = input.len() - at;
-    if rest < 4 {
-        return NO_LINE;
-    }
-    if !is_leading(input[at]) {
+    if input.len() - at < 4 || !is_leading(input[at]) {
         return NO_LINE;
     }
     let byte = input[at + 1];
@@ -420,13 +350,7 @@ fn short_chunk(input: &[u8], at: usize, left: usize) -> ChunkLine
         return NO_LINE;
     }
     let size = size_of(digit_value(input[at]), second, two);
-    if left < size {
-        return NO_LINE;
-    }
-    if rest < length + size + 2 {
-        return NO_LINE;
-    }
-    if !crlf_at(input, at + length + size) {
+    if !has_data(input, at, length + size, size, left) {
         return NO_LINE;
     }
     ChunkLine { at, length, size }
@@ -438,42 +362,36 @@ fn tailed_chunk(input: &[u8], tail: Tail, at: usize, left: usize) -> ChunkLine
     requires { (at ≤ length input.now) × TailAt input.now tail.at tail.length }
     ensures { Plain input.now at left result }
 {
-    let rest = input.len() - at;
-    if rest < 4 {
-        return NO_LINE;
-    }
-    if !is_leading(input[at]) {
+    if input.len() - at < 4 || !is_leading(input[at]) {
         return NO_LINE;
     }
     let second = octets::hex_value(input[at + 1]) as usize;
     let two = 1 - second / 16;
     let size = size_of(digit_value(input[at]), second, two);
     let length = 1 + two + tail.length;
-    if left < size {
-        return NO_LINE;
-    }
-    if rest < length + size + 2 {
-        return NO_LINE;
-    }
-    if !crlf_at(input, at + length + size) {
-        return NO_LINE;
-    }
-    if !same_line(input, tail.at, at + 1 + two, tail.length) {
+    if !has_data(input, at, length + size, size, left)
+        || !same_line(input, tail.at, at + 1 + two, tail.length)
+    {
         return NO_LINE;
     }
     ChunkLine { at, length, size }
 }
 
-// A digit that is not 0: the byte less that of `0` is the number of its bit. The size does not wait for it (with `second * two` in
-// `short_chunk`, 0.98 of the time at chunks of 1 to 64).
+// Do `size` bytes, which fit into what is left of the room, end `taken` bytes behind `at`, and CR LF stand there?
+fn has_data(input: &[u8], at: usize, taken: usize, size: usize, left: usize) -> bool
+    requires { (at ≤ length input.now) × (taken + 2 ≤ length input.now + 8192) }
+    ensures { result ≡ true → (size ≤ left) × CrlfAt input.now (at + taken) }
+{
+    size <= left && input.len() - at >= taken + 2 && crlf_at(input, at + taken)
+}
+
+// A digit that is not 0: the byte less that of `0` is the number of its bit. The size does not wait for it (0.98 of the time at chunks of
+// 1 to 64).
 fn is_leading(b: u8) -> bool
     ensures { result ≡ true → (hex? b ≡ true) × (0 < hex_value b) }
 {
     let bit = b.wrapping_sub(b'0');
-    if bit >= 64 {
-        return false;
-    }
-    (LEADING >> bit) % 2 == 1
+    bit < 64 && (LEADING >> bit) % 2 == 1
 }
 
 // What stands behind the digits of a line, if the line may have extensions and they are short. Lines of up to four digits alone have fewer
@@ -487,10 +405,7 @@ fn tail_of(input: &[u8], line: ChunkLine) -> Tail
     }
     let end = digits_end(input, line.at);
     let length = line.length - (end - line.at);
-    if length < 4 {
-        return NO_TAIL;
-    }
-    if length > WIDE {
+    if length < 4 || length > WIDE {
         return NO_TAIL;
     }
     Tail { at: end, length }
@@ -501,14 +416,12 @@ fn digits_end(input: &[u8], from: usize) -> usize
     requires { from ≤ length input.now }
     ensures { DigitsTo input.now from result }
 {
-    let mut at = from;
-    while at < input.len() {
+    for at in from..input.len() {
         if octets::hex_value(input[at]) > 15 {
             return at;
         }
-        at += 1;
     }
-    at
+    input.len()
 }
 
 // Does the line of a last chunk without extensions, `0` CR LF, stand at `at`? It is passed over, and `closing` answers: with that, a body
@@ -517,13 +430,7 @@ fn last_line(input: &[u8], at: usize) -> bool
     requires { at ≤ length input.now }
     ensures { result ≡ true → LastAt input.now at }
 {
-    if input.len() - at < 3 {
-        return false;
-    }
-    if input[at] != b'0' {
-        return false;
-    }
-    crlf_at(input, at + 1)
+    input.len() - at >= 3 && input[at] == b'0' && crlf_at(input, at + 1)
 }
 
 // The line of a chunk that is known to stand at `at`, if it is one or two digits and CR LF.
@@ -551,10 +458,7 @@ fn tailed_line(input: &[u8], tail: Tail, at: usize) -> ChunkLine
     let second = octets::hex_value(input[at + 1]) as usize;
     let two = 1 - second / 16;
     let length = 1 + two + tail.length;
-    if input.len() - at < length {
-        return NO_LINE;
-    }
-    if !same_line(input, tail.at, at + 1 + two, tail.length) {
+    if input.len() - at < length || !same_line(input, tail.at, at + 1 + two, tail.length) {
         return NO_LINE;
     }
     let size = size_of(digit_value(input[at]), second, two);
@@ -567,12 +471,8 @@ fn long_line(input: &[u8], at: usize) -> ChunkLine
     ensures { Known input.now result × ChunkAt input.now at result.length result.size }
 {
     let size = size_at(input, at);
-    let end = cr_place(input, at) + 2;
-    ChunkLine {
-        at,
-        length: end - at,
-        size,
-    }
+    let length = cr_place(input, at) + 2 - at;
+    ChunkLine { at, length, size }
 }
 
 // The size of the chunk that is known to stand at `at`.
@@ -581,14 +481,12 @@ fn size_at(input: &[u8], at: usize) -> usize
     ensures { SizeAt input.now at result }
 {
     let mut value = 0;
-    let mut end = at;
-    while end < input.len() {
+    for end in at..input.len() {
         let digit = octets::hex_value(input[end]) as usize;
         if digit > 15 {
-            return value;
+            break;
         }
         value = value * 16 + digit;
-        end += 1;
     }
     value
 }
@@ -598,18 +496,16 @@ fn cr_place(input: &[u8], from: usize) -> usize
     requires { from ≤ length input.now }
     ensures { FirstCr input.now from result }
 {
-    let mut at = from;
-    while at < input.len() {
+    for at in from..input.len() {
         if input[at] == b'\r' {
             return at;
         }
-        at += 1;
     }
-    at
+    input.len()
 }
 
 // 1 where the byte behind the first digit may be a second one, 0 where it is CR.
-fn has_second(b: u8) -> usize
+pub fn has_second(b: u8) -> usize
     ensures { HasSecond b result }
 {
     if b == b'\r' { 0 } else { 1 }
@@ -643,9 +539,7 @@ fn crlf_at(input: &[u8], at: usize) -> bool
     requires { at + 2 ≤ length input.now }
     ensures { result ≡ true → CrlfAt input.now at }
 {
-    let cr = input[at] as u16;
-    let lf = input[at + 1] as u16;
-    cr + lf * 256 == CRLF
+    u16::from_le_bytes([input[at], input[at + 1]]) == CRLF
 }
 
 // The answer where reading ends so, behind `total` bytes of data.
@@ -666,61 +560,53 @@ fn ending_answer(ending: Ending, total: usize) -> Answer
 }
 
 // Reads the chunk at `at`, behind chunks with `total` bytes of data, and passes over its data.
-fn chunk(input: &[u8], at: usize, total: usize, room: usize) -> Found
+fn chunk(input: &[u8], at: usize, total: usize, room: usize) -> Result<ChunkLine, Ending>
     requires { At room input.now (Line First 0 total) at }
     ensures { ChunkRead room input.now at total result }
 {
-    match line(input, at, total, room) {
-        Found::Over(ending) => Found::Over(ending),
-        Found::Data { size, start } => {
-            if input.len() - start <= size {
-                return Found::Over(Ending::More);
-            }
-            let end = start + size;
-            if input[end] != b'\r' {
-                return Found::Over(Ending::Refused(Refusal::Malformed(end)));
-            }
-            if input.len() - end <= 1 {
-                return Found::Over(Ending::More);
-            }
-            if input[end + 1] != b'\n' {
-                return Found::Over(Ending::Refused(Refusal::Malformed(end + 1)));
-            }
-            Found::Data { size, start }
-        }
+    let line = line(input, at, total, room)?;
+    let start = at + line.length;
+    if input.len() - start <= line.size {
+        return Err(Ending::More);
     }
+    let end = start + line.size;
+    if input[end] != b'\r' {
+        return Err(Ending::Refused(Refusal::Malformed(end)));
+    }
+    if input.len() - end <= 1 {
+        return Err(Ending::More);
+    }
+    if input[end + 1] != b'\n' {
+        return Err(Ending::Refused(Refusal::Malformed(end + 1)));
+    }
+    Ok(line)
 }
 
 // Reads the chunk line at `start`, behind chunks with `total` bytes of data; and the trailer, if the line is the last. No sum wraps: a
 // digit that would pass the room is refused before it is added.
-fn line(input: &[u8], start: usize, total: usize, room: usize) -> Found
+fn line(input: &[u8], start: usize, total: usize, room: usize) -> Result<ChunkLine, Ending>
     requires { At room input.now (Line First 0 total) start }
     ensures { LineRead room input.now start total result }
 {
     let left = room - total;
     let mut value = 0;
-    let mut at = start;
-    while at < input.len() {
+    for at in start..input.len() {
         let digit = octets::hex_value(input[at]) as usize;
         if digit > 15 {
             if at == start {
-                return Found::Over(Ending::Refused(Refusal::Malformed(at)));
+                return Err(Ending::Refused(Refusal::Malformed(at)));
             }
             return extensions(input, start, at, value, total, room);
         }
         if at - start == LINE_LIMIT {
-            return Found::Over(Ending::Refused(Refusal::LineTooLong(at)));
+            return Err(Ending::Refused(Refusal::LineTooLong(at)));
         }
-        if value > left / 16 {
-            return Found::Over(Ending::Refused(Refusal::BodyTooLarge(at)));
-        }
-        if digit > left - value * 16 {
-            return Found::Over(Ending::Refused(Refusal::BodyTooLarge(at)));
+        if value > left / 16 || digit > left - value * 16 {
+            return Err(Ending::Refused(Refusal::BodyTooLarge(at)));
         }
         value = value * 16 + digit;
-        at += 1;
     }
-    Found::Over(Ending::More)
+    Err(Ending::More)
 }
 
 // Reads the line at `line`, whose digits have the value `size` and end at `end`, on to its CR.
@@ -731,50 +617,56 @@ fn extensions(
     size: usize,
     total: usize,
     room: usize,
-) -> Found
+) -> Result<ChunkLine, Ending>
     requires { SizeRead room input.now line total size end }
     ensures { LineRead room input.now line total result }
 {
     let mut pos = ExtPos::Between;
-    let mut at = end;
-    while at < input.len() {
+    for at in end..input.len() {
         let byte = input[at];
         if byte == b'\r' {
             if positions::ext_ends(pos) {
                 return line_feed(input, line, at + 1, size, total, room);
             }
-            return Found::Over(Ending::Refused(Refusal::Malformed(at)));
+            return Err(Ending::Refused(Refusal::Malformed(at)));
         }
         pos = positions::ext_step(pos, byte);
         if !positions::ext_live(pos) {
-            return Found::Over(Ending::Refused(Refusal::Malformed(at)));
+            return Err(Ending::Refused(Refusal::Malformed(at)));
         }
         if at - line == LINE_LIMIT {
-            return Found::Over(Ending::Refused(Refusal::LineTooLong(at)));
+            return Err(Ending::Refused(Refusal::LineTooLong(at)));
         }
-        at += 1;
     }
-    Found::Over(Ending::More)
+    Err(Ending::More)
 }
 
 // Behind the CR of the line at `line`, which gives `size`.
-fn line_feed(input: &[u8], line: usize, at: usize, size: usize, total: usize, room: usize) -> Found
+fn line_feed(
+    input: &[u8],
+    line: usize,
+    at: usize,
+    size: usize,
+    total: usize,
+    room: usize,
+) -> Result<ChunkLine, Ending>
     requires { (line ≤ at) × At room input.now (LineFeed size total) at × LineAt input.now line (at - line) size (cr_byte ∷ []) }
     ensures { LineRead room input.now line total result }
 {
     if input.len() <= at {
-        return Found::Over(Ending::More);
+        return Err(Ending::More);
     }
     if input[at] != b'\n' {
-        return Found::Over(Ending::Refused(Refusal::Malformed(at)));
+        return Err(Ending::Refused(Refusal::Malformed(at)));
     }
     if size == 0 {
-        return Found::Over(trailer(input, at + 1, total, room));
+        return Err(trailer(input, at + 1, total, room));
     }
-    Found::Data {
+    Ok(ChunkLine {
+        at: line,
+        length: at + 1 - line,
         size,
-        start: at + 1,
-    }
+    })
 }
 
 // As `trailer`, for most trailers are empty: the closing CR LF is looked for first (0.95 of the time at one chunk of 5 bytes).
@@ -782,13 +674,11 @@ fn closing(input: &[u8], start: usize, total: usize, room: usize) -> Ending
     requires { At room input.now (Trail trailer.begin 0 total) start }
     ensures { Last room input.now total result }
 {
-    if input.len() - start >= 2 {
-        if crlf_at(input, start) {
-            return Ending::Whole {
-                taken: start + 2,
-                trailer: 0,
-            };
-        }
+    if input.len() - start >= 2 && crlf_at(input, start) {
+        return Ending::Whole {
+            taken: start + 2,
+            trailer: 0,
+        };
     }
     trailer(input, start, total, room)
 }
@@ -799,8 +689,7 @@ fn trailer(input: &[u8], start: usize, total: usize, room: usize) -> Ending
     ensures { Last room input.now total result }
 {
     let mut pos = TrailPos::LineStart;
-    let mut at = start;
-    while at < input.len() {
+    for at in start..input.len() {
         let byte = input[at];
         if positions::closes(pos, byte) {
             return close(input, start, at, total, room);
@@ -815,7 +704,6 @@ fn trailer(input: &[u8], start: usize, total: usize, room: usize) -> Ending
         if positions::is_forbidden(pos) {
             return Ending::Refused(Refusal::ForbiddenField(at));
         }
-        at += 1;
     }
     Ending::More
 }

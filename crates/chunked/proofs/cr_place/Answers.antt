@@ -3,9 +3,6 @@ use Rattle.std.proofs.Common.{arith}
 use Rattle.chunked.proofs.Long.{no_cr-on}
 use Rattle.chunked.proofs.cr_place.Goals as goal
 
-pub loop-at-init : goal.loop-at-init
-loop-at-init c = (omega arith, omega (arith, c.requires), λ k h l e. absurd (omega arith))
-
 pub returns-then-input-at-eq13 : goal.returns-then-input-at-eq13
 returns-then-input-at-eq13 c =
     let i = c.loop-at.invariant in
@@ -16,8 +13,3 @@ loop-at-preserved c =
     let i = c.loop-at.invariant in
     let s = c.args in
     (omega (arith, i.0), omega arith, no_cr-on s.input.now s.from c.loop-at.at i.2 c.if-input-at-eq13.false)
-
-pub returns : goal.returns
-returns c =
-    let i = c.loop-at.invariant in
-    record { starts = i.0; within = i.1; none = i.2; here = λ h. absurd (omega (arith, c.loop-at-test.false)) }

@@ -3,8 +3,8 @@ use Rattle.std.proofs.Common.{◌-◌, length}
 use Rattle.chunked.specs.helpers.Passes.{Reached}
 use Rattle.chunked.proofs.decide.Given as goal
 
-abbrev pub invariant-loop-last : goal.invariant-loop-last
-invariant-loop-last l = Reached l.room l.input l.run
+abbrev pub invariant-loop-run : goal.invariant-loop-run
+invariant-loop-run l = Reached l.room l.input l.run
 
-abbrev pub decreases-loop-last : goal.decreases-loop-last
-decreases-loop-last l = length l.input - l.run.at
+abbrev pub decreases-loop-run : goal.decreases-loop-run
+decreases-loop-run l = length l.input - l.run.at

@@ -17,9 +17,6 @@ digits_more xs i j each here k h l = go (dec_le j k)
 byte : (c : After-hex_value) → get_or c.args.input.now c.loop-at.at 0 < 256
 byte c = omega (arith, c.type_inv.input c.loop-at.at)
 
-pub loop-at-init : goal.loop-at-init
-loop-at-init c = (omega arith, c.requires, λ k h l. absurd (omega arith))
-
 pub returns-then-hex_value-gt15 : goal.returns-then-hex_value-gt15
 returns-then-hex_value-gt15 c =
     let p = (goal.at.returns-then-hex_value-gt15 c).After-hex_value in
@@ -38,8 +35,3 @@ loop-at-preserved c =
       omega (arith, c.loop-at-test.true),
       digits_more c.args.input.now c.args.from c.loop-at.at i.2 (is_hex _ _ c.hex_value.ensures (omega (arith, c.if-hex_value-gt15.false))).0,
     )
-
-pub returns : goal.returns
-returns c =
-    let i = c.loop-at.invariant in
-    record { starts = i.0; within = i.1; each = i.2; stop = λ l. absurd (omega (arith, c.loop-at-test.false)) }

@@ -3,7 +3,8 @@ use Rattle.std.proofs.Common.{◌<◌, get_or, arith}
 use Rattle.chunked.proofs.Passes.{at_more, first_fits, last_more, last-refused}
 use Rattle.chunked.proofs.Lines.{size-start, size-first, size-read, size-long, size-past, size-on}
 use Rattle.chunked.proofs.line.Goals as goal
-use Rattle.chunked.proofs.line.Goals.{After-hex_value-digit}
+use Rattle.chunked.proofs.line.Goals.{After-hex_value-digit, then-value-left-via-then-value-left}
+use Rattle.chunked.proofs.line.Goals.{then-value-left-via-else-value-left+then-digit-left}
 
 byte : (c : After-hex_value-digit) → get_or c.args.input.now c.loop-at.at 0 < 256
 byte c = omega (arith, c.type_inv.input c.loop-at.at)
@@ -31,30 +32,6 @@ returns-then-at-start-eq-LINE_LIMIT c =
     last-refused
     (size-long c.loop-at.invariant c.loop-at-test.true c.hex_value-digit.ensures c.if-digit-gt15.false c.if-at-start-eq-LINE_LIMIT.true)
 
-pub returns-then-value-left : goal.returns-then-value-left
-returns-then-value-left c =
-    last-refused
-    (size-past c.loop-at.invariant c.loop-at-test.true c.hex_value-digit.ensures c.if-digit-gt15.false c.if-at-start-eq-LINE_LIMIT.false
-    (omega (arith, c.loop-at.invariant.fits)))
-
-pub overflow_mul-value : goal.overflow_mul-value
-overflow_mul-value c = omega (arith, c.loop-at.invariant.fits)
-
-pub overflow_sub-left-in-loop-at : goal.overflow_sub-left-in-loop-at
-overflow_sub-left-in-loop-at c = omega (arith, c.loop-at.invariant.fits)
-
-pub returns-then-digit-left : goal.returns-then-digit-left
-returns-then-digit-left c =
-    last-refused
-    (size-past c.loop-at.invariant c.loop-at-test.true c.hex_value-digit.ensures c.if-digit-gt15.false c.if-at-start-eq-LINE_LIMIT.false
-    (omega (arith, c.loop-at.invariant.fits)))
-
-pub overflow_mul-value-in-loop-at : goal.overflow_mul-value-in-loop-at
-overflow_mul-value-in-loop-at c = omega (arith, c.loop-at.invariant.fits)
-
-pub overflow_add-value : goal.overflow_add-value
-overflow_add-value c = omega (arith, c.loop-at.invariant.fits)
-
 pub loop-at-preserved : goal.loop-at-preserved
 loop-at-preserved c =
     size-on c.loop-at.invariant c.loop-at-test.true c.hex_value-digit.ensures c.if-digit-gt15.false c.if-at-start-eq-LINE_LIMIT.false
@@ -62,3 +39,12 @@ loop-at-preserved c =
 
 pub returns : goal.returns
 returns c = last_more (at_more c.loop-at.invariant.at c.loop-at-test.false)
+
+pub returns-then-value-left : goal.returns-then-value-left
+returns-then-value-left c =
+    let fits = c.loop-at.invariant.fits in
+    let past = size-past c.loop-at.invariant c.loop-at-test.true c.hex_value-digit.ensures c.if-digit-gt15.false c.if-at-start-eq-LINE_LIMIT.false in
+    elim c.then-value-left.branch [
+      | then-value-left-via-then-value-left w ↦ last-refused (past (omega (arith, fits, w.if-value-left.true)))
+      | then-value-left-via-else-value-left+then-digit-left w ↦ last-refused (past (omega (arith, fits, w.if-digit-left.true)))
+    ]

@@ -1,8 +1,8 @@
 -- `chunked::short_chunk` meets its contract.
-use Rattle.std.proofs.Common.{◌≡◌, ℕ, ◌+◌, ◌<◌, ◌≤◌, sym, subst, arith}
-use Rattle.chunked.specs.helpers.Passes.{CrlfAt, ChunkAt}
+use Rattle.std.proofs.Common.{ℕ, ◌+◌, ◌<◌, ◌≤◌, sym, subst, arith}
+use Rattle.chunked.specs.helpers.Passes.{ChunkAt}
 use Rattle.chunked.proofs.Digits.{at_most, no_larger}
-use Rattle.chunked.proofs.Chunks.{none-plain, chunk-known}
+use Rattle.chunked.proofs.Chunks.{chunk-known}
 use Rattle.chunked.proofs.Short.{size-some, line_by_digits}
 use Rattle.chunked.proofs.short_chunk.Goals as goal
 use Rattle.chunked.proofs.short_chunk.Goals.{After-hex_value-second}
@@ -11,42 +11,15 @@ second : (c : After-hex_value-second) → c.hex_value-second.result ≤ 16
 second c =
     at_most _ c.hex_value-second.result (omega (arith, c.type_inv.input (c.args.at + 1))) c.hex_value-second.ensures
 
-pub returns-then-rest-lt4 : goal.returns-then-rest-lt4
-returns-then-rest-lt4 c = none-plain
-
-pub returns-then-not-is_leading : goal.returns-then-not-is_leading
-returns-then-not-is_leading c = none-plain
-
-pub returns-then-not-crlf_at : goal.returns-then-not-crlf_at
-returns-then-not-crlf_at c = none-plain
-
 pub overflow_mul-second : goal.overflow_mul-second
 overflow_mul-second c =
     let p = (goal.at.overflow_mul-second c).After-hex_value-second in
     omega (arith, second p, no_larger c.hex_value-second.result c.has_second-two.result c.has_second-two.ensures.0)
 
-pub returns-then-second-two-gt15 : goal.returns-then-second-two-gt15
-returns-then-second-two-gt15 c = none-plain
-
 pub size_of-size-requires : goal.size_of-size-requires
 size_of-size-requires c =
     let p = (goal.at.size_of-size-requires c).After-hex_value-second in
     (c.digit_value.ensures.0, omega (arith, second p), c.has_second-two.ensures.0)
-
-pub returns-then-left-size : goal.returns-then-left-size
-returns-then-left-size c = none-plain
-
-pub overflow_add-length-2 : goal.overflow_add-length-2
-overflow_add-length-2 c = omega (arith, c.size_of-size.ensures.0, c.has_second-two.ensures.0)
-
-pub overflow_add-length-3 : goal.overflow_add-length-3
-overflow_add-length-3 c = omega (arith, c.size_of-size.ensures.0, c.has_second-two.ensures.0)
-
-pub returns-then-rest-length : goal.returns-then-rest-length
-returns-then-rest-length c = none-plain
-
-pub returns-then-not-crlf_at-2 : goal.returns-then-not-crlf_at-2
-returns-then-not-crlf_at-2 c = none-plain
 
 pub returns : goal.returns
 returns c =
@@ -55,13 +28,13 @@ returns c =
     let xs = c.args.input.now in
     let first = c.is_leading.ensures c.if-not-is_leading.false in
     let d = c.digit_value.ensures.1 first.0 in
-    let p : i + (3 + n) + c.size_of-size.result ≡ i + (3 + n + c.size_of-size.result) = omega arith in
+    let h = c.has_data.ensures c.if-not-has_data.false in
     let r : ChunkAt xs i (3 + n) c.size_of-size.result = record {
       some = size-some c.hex_value-second.result (subst (λ (k : ℕ). 0 < k) (sym d) first.1) c.has_second-two.ensures.0
           c.size_of-size.ensures.1 c.size_of-size.ensures.2;
       line = line_by_digits xs first.0 d c.hex_value-second.ensures (omega arith) c.has_second-two.ensures.0
           (c.crlf_at.ensures c.if-not-crlf_at.false) c.size_of-size.ensures.1
           c.size_of-size.ensures.2;
-      end = subst (CrlfAt xs) p (c.crlf_at-2.ensures c.if-not-crlf_at-2.false);
+      end = h.1;
     } in
-    (chunk-known r, λ _. (omega arith, r))
+    (chunk-known r, λ _. (h.0, r))

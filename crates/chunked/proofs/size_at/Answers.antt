@@ -24,13 +24,6 @@ loop-end-init c =
     let h = c.requires in
     (h.0, h.1, h.2, digits-start h.2)
 
-pub returns-then-digit-gt15 : goal.returns-then-digit-gt15
-returns-then-digit-gt15 c =
-    let p = (goal.at.returns-then-digit-gt15 c).After-hex_value-digit in
-    λ w v d.
-    let i = c.loop-end.invariant in
-    same_size d.line i.2.line ∙ sym (digits-stop i.2 i.3 (no_hex _ _ c.hex_value-digit.ensures (byte p) c.if-digit-gt15.true))
-
 pub overflow_mul-value : goal.overflow_mul-value
 overflow_mul-value c =
     let p = (goal.at.overflow_mul-value c).Else-digit-gt15 in
@@ -44,7 +37,14 @@ overflow_add-value c =
 pub loop-end-preserved : goal.loop-end-preserved
 loop-end-preserved c = next ((goal.at.loop-end-preserved c).Else-digit-gt15)
 
-pub returns : goal.returns
-returns c =
+pub returns-then-digit-gt15 : goal.returns-then-digit-gt15
+returns-then-digit-gt15 c =
+    let p = (goal.at.returns-then-digit-gt15 c).After-hex_value-digit in
+    λ w v d.
+    let i = c.loop-end.invariant in
+    same_size d.line i.2.line ∙ sym (digits-stop i.2 i.3 (no_hex _ _ c.hex_value-digit.ensures (byte p) c.if-digit-gt15.true))
+
+pub returns-after-loop-end : goal.returns-after-loop-end
+returns-after-loop-end c =
     let i = c.loop-end.invariant in
     absurd (omega (arith, c.loop-end-test.false, digits-inside i.2 i.3))

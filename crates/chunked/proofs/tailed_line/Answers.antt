@@ -1,8 +1,8 @@
 -- `chunked::tailed_line` meets its contract.
 use Rattle.std.proofs.Common.{◌+◌, ◌-◌, ◌/◌, ◌≤◌, refl, arith}
 use Rattle.chunked.proofs.Digits.{at_most}
-use Rattle.chunked.proofs.Short.{enough, start_digit, known-line}
-use Rattle.chunked.proofs.Chunks.{none-known, chunk-known}
+use Rattle.chunked.proofs.Short.{start_digit, known-line}
+use Rattle.chunked.proofs.Chunks.{chunk-known}
 use Rattle.chunked.proofs.Tails.{tailed}
 use Rattle.chunked.proofs.tailed_line.Goals as goal
 use Rattle.chunked.proofs.tailed_line.Goals.{After-hex_value-second}
@@ -12,26 +12,8 @@ second c =
     at_most _ c.hex_value-second.result (omega (arith, c.type_inv.input (c.args.at + 1)))
     c.hex_value-second.ensures
 
-pub overflow_add-at : goal.overflow_add-at
-overflow_add-at c = omega (arith, enough c.requires.0.2)
-
-pub bounds-input-at : goal.bounds-input-at
-bounds-input-at c = omega (arith, enough c.requires.0.2)
-
 pub overflow_sub-two : goal.overflow_sub-two
 overflow_sub-two c = omega (arith, second ((goal.at.overflow_sub-two c).After-hex_value-second))
-
-pub overflow_add-length-2 : goal.overflow_add-length-2
-overflow_add-length-2 c = omega (arith, c.requires.1.few)
-
-pub returns-then-input-at : goal.returns-then-input-at
-returns-then-input-at c = (none-known, λ h. absurd (omega arith))
-
-pub same_line-requires : goal.same_line-requires
-same_line-requires c = (c.requires.1.inside, omega arith)
-
-pub returns-then-not-same_line : goal.returns-then-not-same_line
-returns-then-not-same_line c = (none-known, λ h. absurd (omega arith))
 
 pub size_of-size-requires : goal.size_of-size-requires
 size_of-size-requires c =

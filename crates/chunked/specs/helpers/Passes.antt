@@ -1,6 +1,6 @@
 -- Where a pass over the input stands, and what its parts find. Definitions for the contracts of the helpers.
 use Rattle.std.specs.Prelude.{◌≡◌, ℕ, ◌+◌, ◌-◌, ◌*◌, ◌<◌, ◌≤◌, false, List, ◌++◌, length, take, drop, ◌≢◌, slice_index, slice_index_or}
-use Rattle.std.specs.Prelude.{slice_range}
+use Rattle.std.specs.Prelude.{slice_range, Result, Ok, Err}
 use Prim.Native.Char.{code}
 use Rattle.octets.specs.Bytes.{hex?}
 use Rattle.octets.specs.Reading.{number_of, place_of}
@@ -19,7 +19,6 @@ use Rattle.chunked.specs.declared.Answer.{Answer as Reading}
 use Rattle.chunked.specs.declared.Ending.{Ending}
 use Rattle.chunked.specs.declared.ChunkLine.{ChunkLine}
 use Rattle.chunked.specs.declared.Run.{Run}
-use Rattle.chunked.specs.declared.Found.{Found}
 
 -- a pass stands at i: the bytes before led to the state s, with no verdict on the way
 pub record At (room : ℕ) (xs : List ℕ) (s : State) (i : ℕ) : Type 0 where
@@ -81,11 +80,12 @@ SizeRead room xs i t v j =
     (i ≤ j) × (j < length xs) × At room xs (Line (Size v) (j - i) t) j × (hex? (slice_index xs j) ≡ false)
     × (run next_line_pos First (slice_range xs i j) ≡ Size v)
 
--- the line at i, which has t bytes of data before it, gives the size v, above zero, with the data at j
-abbrev pub LineRead : ℕ → List ℕ → ℕ → ℕ → Found → Type 0
-LineRead room xs i t (Found.Data v j) =
-    (0 < v) × (i ≤ j) × At room xs (Data (v - 1) (t + v)) j × LineAt xs i (j - i) v crlf
-LineRead room xs i t (Found.Over a) = Last room xs t a
+-- the line at i, which has t bytes of data before it, was read: it gives a size above zero, and data is behind it
+abbrev pub LineRead : ℕ → List ℕ → ℕ → ℕ → Result ChunkLine Ending → Type 0
+LineRead room xs i t (Ok line) =
+    (line.at ≡ i) × (0 < line.size) × At room xs (Data (line.size - 1) (t + line.size)) (i + line.length)
+    × LineAt xs i line.length line.size crlf
+LineRead room xs i t (Err e) = Last room xs t e
 
 -- the n bytes at i are those at j
 abbrev pub SameAt : List ℕ → ℕ → ℕ → ℕ → Type 0
@@ -116,10 +116,10 @@ pub record ChunkAt (xs : List ℕ) (i w v : ℕ) : Type 0 where
   pub line : LineAt xs i w v crlf
   pub end : CrlfAt xs (i + (w + v))
 
--- the chunk at i, which has t bytes of data before it, fits into the room; its data, v bytes, is at j
-abbrev pub ChunkRead : ℕ → List ℕ → ℕ → ℕ → Found → Type 0
-ChunkRead room xs i t (Found.Data v j) = (i ≤ j) × (t + v ≤ room) × ChunkAt xs i (j - i) v
-ChunkRead room xs i t (Found.Over a) = Last room xs t a
+-- the chunk at i, which has t bytes of data before it, fits into the room
+abbrev pub ChunkRead : ℕ → List ℕ → ℕ → ℕ → Result ChunkLine Ending → Type 0
+ChunkRead room xs i t (Ok line) = (line.at ≡ i) × (t + line.size ≤ room) × ChunkAt xs i line.length line.size
+ChunkRead room xs i t (Err e) = Last room xs t e
 
 -- ## Chunks
 
