@@ -4,7 +4,7 @@
 ghost use Rattle.std.specs.Prelude.{◌≡◌, ◌+◌, ◌*◌, ◌/◌, ◌%◌, ◌<◌, ◌≤◌};
 ghost use Rattle.chunked.specs.helpers.Passes.{HasSecond};
 ghost use Rattle.size_lines.specs.helpers.Lines.{InDigits, PlainLine};
-ghost use Rattle.size_lines.specs.helpers.Words.{ShortOf};
+ghost use Rattle.size_lines.specs.helpers.Words.{LineOf, ShortOf};
 
 use framing::LINE_LIMIT;
 
@@ -25,25 +25,13 @@ pub struct Short {
 // CR and LF as one number, CR the lower byte.
 const CRLF: u32 = 0x0a0d;
 
-// The short line that begins with these four bytes. No branch asks how many digits it has.
+// What these four bytes begin with.
 pub fn read_word(word: u32) -> Short
     ensures { ShortOf result × (result.word ≡ word) }
 {
-    let byte = (word / 256 % 256) as u8;
-    let first = octets::hex_value((word % 256) as u8) as usize;
-    let second = octets::hex_value(byte) as usize;
-    let two = has_second(byte);
-    if first > 15 || second / 16 + two != 1 || line_end(word, two) != CRLF {
-        return Short { word, line: None };
-    }
-    let size = short_size(first, second, two);
-    if size == 0 {
-        return Short { word, line: None };
-    }
-    let length = 3 + two;
     Short {
         word,
-        line: Some(SizeLine { size, length }),
+        line: short_line(word),
     }
 }
 
@@ -65,7 +53,26 @@ pub fn plain_line(bytes: &[u8], left: usize) -> Option<SizeLine>
     None
 }
 
-// 1 where the byte behind the first digit may be a second one, 0 where it is CR.
+// The short line that begins with these four bytes. No branch asks how many digits it has.
+fn short_line(word: u32) -> Option<SizeLine>
+    ensures { LineOf word result }
+{
+    let [first, byte, _, _] = word.to_le_bytes();
+    let first = octets::hex_value(first) as usize;
+    let second = octets::hex_value(byte) as usize;
+    let two = has_second(byte);
+    if first > 15 || second / 16 + two != 1 || line_end(word, two) != CRLF {
+        return None;
+    }
+    let size = short_size(first, second, two);
+    if size == 0 {
+        return None;
+    }
+    let length = 3 + two;
+    Some(SizeLine { size, length })
+}
+
+// 1 where the byte behind the first digit may be a second one, 0 where it is CR. A number: lengths and sizes are counted with it.
 fn has_second(byte: u8) -> usize
     ensures { HasSecond byte result }
 {
