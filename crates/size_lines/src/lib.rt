@@ -2,7 +2,6 @@
 #![tactic(auto)]
 
 ghost use Rattle.std.specs.Prelude.{◌≡◌, ◌+◌, ◌*◌, ◌/◌, ◌%◌, ◌<◌, ◌≤◌};
-ghost use Rattle.chunked.specs.helpers.Passes.{HasSecond};
 ghost use Rattle.size_lines.specs.helpers.Lines.{InDigits, PlainLine};
 ghost use Rattle.size_lines.specs.helpers.Words.{LineOf, ShortOf};
 
@@ -60,7 +59,7 @@ fn short_line(word: u32) -> Option<SizeLine>
     let [first, byte, _, _] = word.to_le_bytes();
     let first = octets::hex_value(first) as usize;
     let second = octets::hex_value(byte) as usize;
-    let two = has_second(byte);
+    let two = chunked::has_second(byte);
     if first > 15 || second / 16 + two != 1 || line_end(word, two) != CRLF {
         return None;
     }
@@ -72,14 +71,7 @@ fn short_line(word: u32) -> Option<SizeLine>
     Some(SizeLine { size, length })
 }
 
-// 1 where the byte behind the first digit may be a second one, 0 where it is CR. A number: lengths and sizes are counted with it.
-fn has_second(byte: u8) -> usize
-    ensures { HasSecond byte result }
-{
-    if byte == b'\r' { 0 } else { 1 }
-}
-
-// The two bytes behind one digit, or two.
+// The two bytes behind one digit, or two: `two` is 0 or 1, a number, since lengths and sizes are counted with it.
 fn line_end(word: u32, two: usize) -> u32
     ensures { (two ≡ 0 → result ≡ word / 256 % 65536) × (two ≡ 1 → result ≡ word / 65536) }
 {
