@@ -97,13 +97,33 @@ fn copy_bytes(dst: &mut [u8], src: &[u8])
     }
 }
 
-// The block of `N` bytes at `at`: all of it is read before any is written, so that it is one wide move.
+// The block of `N` bytes at `at`.
 fn copy_block<const N: usize>(dst: &mut [u8], src: &[u8], at: usize)
     requires { (length src.now ≤ length dst.old) × (at + N ≤ length src.now) }
     ensures { dst.new ≡ block_at N src.now dst.old at }
 {
     let end = at + N;
-    let mut block = [0; N];
-    block.copy_from_slice(&src[at..end]);
-    dst[at..end].copy_from_slice(&block);
+    put_block::<N>(&mut dst[at..end], block::<N>(&src[at..end]));
+}
+
+// The bytes of a block, by value: they are read before any is written, so that a copy is one wide move. By a loop: std's `copy_from_slice`
+// asks whether the two overlap, and is then not compiled into the loops of callers (twice the time of `pieces` at chunks of 16).
+fn block<const N: usize>(src: &[u8]) -> [u8; N]
+    requires { length src.now ≡ N }
+    ensures { result ≡ src.now }
+{
+    let mut bytes = [0; N];
+    for i in 0..N {
+        bytes[i] = src[i];
+    }
+    bytes
+}
+
+fn put_block<const N: usize>(dst: &mut [u8], bytes: [u8; N])
+    requires { length dst.old ≡ N }
+    ensures { dst.new ≡ bytes.entry }
+{
+    for i in 0..N {
+        dst[i] = bytes[i];
+    }
 }
