@@ -15,17 +15,14 @@ use Rattle.lines.specs.Reading.{line_end, lines_from, rest_from, line_with, gath
 use Rattle.lines.specs.declared.Gathered.{Gathered}
 use Rattle.lines.proofs.Demands as Lines
 use Rattle.lines.proofs.Ends.{end-within, lines_none, rest-none}
-use Rattle.report.specs.Saying.{ROOM, said, all_said}
+use Rattle.report.specs.Saying.{said, all_said}
 use Rattle.report.specs.Calls.{LINE_LENGTH, Foremost}
 use Rattle.report.proofs.Says.{said-short, said_clip}
 use Rattle.report.proofs.Pieces.{all_none, all_append, all_one, all_short, text-short, foremost_put}
-use Rattle.bench.specs.helpers.Fits.{PieceFits}
 
 -- at bytes of it are taken: these lines ended, and of the line begun behind them the first bytes are held
-pub record Spoken (piece first : List ℕ) (old line frame room out : List ℕ) (at begun used : ℕ) : Type 0 where
+pub record Spoken (piece first : List ℕ) (old line out : List ℕ) (at begun used : ℕ) : Type 0 where
   pub lined : length line ≡ LINE_LENGTH
-  pub framed : length frame ≡ ROOM
-  pub roomed : length room ≡ ROOM
   pub ended : List (List ℕ)
   pub head : List ℕ
   pub within : at ≤ length piece
@@ -37,16 +34,14 @@ pub record Spoken (piece first : List ℕ) (old line frame room out : List ℕ) 
   pub count : used ≡ length (all_said ended)
   pub few : length ended ≤ at
 
-pub spoken_start : {piece line₀ old frame room : List ℕ} {begun : ℕ} → PieceFits piece line₀ begun frame room old
-    → Spoken piece (take begun line₀) old line₀ frame room old 0 begun 0
-spoken_start {piece} {line₀} {old} {frame} {room} {begun} fits = record {
-  lined = fits.0;
-  framed = fits.2;
-  roomed = fits.3;
+pub spoken_start : {piece line₀ old : List ℕ} {begun : ℕ} → length line₀ ≡ LINE_LENGTH → begun ≤ LINE_LENGTH
+    → Spoken piece (take begun line₀) old line₀ old 0 begun 0
+spoken_start {piece} {line₀} {old} {begun} lined short = record {
+  lined = lined;
   ended = [];
   head = take begun line₀;
   within = omega arith;
-  short = fits.1;
+  short = short;
   held = sym (take_all LINE_LENGTH (take begun line₀) (omega (arith, length-take begun line₀)));
   lines = refl;
   rest = refl;
@@ -61,14 +56,14 @@ pub record Part (piece line : List ℕ) (at begun : ℕ) (g : Gathered) (line' :
   pub answers : g ≡ gathering line begun (take (length piece - at) (drop at piece))
   pub writes : line' ≡ gathered_line line begun (take (length piece - at) (drop at piece))
 
-module _ {piece first old line frame room out : List ℕ} {at begun used : ℕ}
-    (s : Spoken piece first old line frame room out at begun used) where
+module _ {piece first old line out : List ℕ} {at begun used : ℕ}
+    (s : Spoken piece first old line out at begun used) where
   pub out-length : length out ≡ length old
   out-length = ap length s.wrote ∙ placed-length old 0 (all_said s.ended)
 
   -- what is said of one more line fits
-  pub next_fits : (l : List ℕ) → at < length piece → 16 * length piece + 16 ≤ length old → used + length (said l) ≤ length out
-  next_fits l h f = omega (arith, out-length, s.count, s.few, all_short s.ended, said-short l)
+  pub next_fits : at < length piece → 16 * length piece + 16 ≤ length old → used + 16 ≤ length out
+  next_fits h f = omega (arith, out-length, s.count, s.few, all_short s.ended)
 
   pub spoken_all : length piece ≤ at → 16 * length piece ≤ length old → Foremost used out (all_said (lines_from first piece))
       × (out ≡ placed old 0 (all_said (lines_from first piece)))
@@ -167,11 +162,10 @@ module _ {piece first old line frame room out : List ℕ} {at begun used : ℕ}
     behind-part k = drop-drop k at piece
 
     -- the line ended, and is answered
-    pub spoken_line : {frame' room' out' : List ℕ} {used' : ℕ} → g.ended ≡ true → 16 * length piece + 16 ≤ length old
-        → length frame' ≡ length frame → length room' ≡ length room
+    pub spoken_line : {out' : List ℕ} {used' : ℕ} → g.ended ≡ true → 16 * length piece + 16 ≤ length old
         → used' ≡ used + length (said (take g.held line')) → out' ≡ placed out used (said (take g.held line'))
-        → Spoken piece first old line' frame' room' out' (at + g.taken) 0 used'
-    spoken_line e f fl rl u w =
+        → Spoken piece first old line' out' (at + g.taken) 0 used'
+    spoken_line e f u w =
         let said-is : said (take g.held line') ≡ said whole = ap said front ∙ said_clip whole in
         let more : all_said (s.ended ++ (whole ∷ [])) ≡ all_said s.ended ++ said whole
         = all_append s.ended (whole ∷ []) ∙ ap (λ (z : List ℕ). all_said s.ended ++ z) (all_one whole) in
@@ -180,8 +174,6 @@ module _ {piece first old line frame room out : List ℕ} {at begun used : ℕ}
         let first-line = Lines.line-ended s.head p (taken-line e).0 in
         record {
           lined = line-length;
-          framed = fl ∙ s.framed;
-          roomed = rl ∙ s.roomed;
           ended = s.ended ++ (whole ∷ []);
           head = [];
           within = taken-within.1;
@@ -200,7 +192,7 @@ module _ {piece first old line frame room out : List ℕ} {at begun used : ℕ}
         }
 
     -- the line goes on behind the piece
-    pub spoken_on : g.ended ≡ false → Spoken piece first old line' frame room out (at + g.taken) g.held used
+    pub spoken_on : g.ended ≡ false → Spoken piece first old line' out (at + g.taken) g.held used
     spoken_on e =
         let whole_part : whole ≡ s.head ++ p = ap (λ (z : List ℕ). s.head ++ z) (take_all (line_end p) p (taken-all e).0) in
         let none : drop (at + g.taken) piece ≡ []
@@ -208,8 +200,6 @@ module _ {piece first old line frame room out : List ℕ} {at begun used : ℕ}
         let no_line = Lines.line-goes-on s.head p (taken-all e).0 in
         record {
           lined = line-length;
-          framed = s.framed;
-          roomed = s.roomed;
           ended = s.ended;
           head = whole;
           within = taken-within.1;

@@ -1,11 +1,10 @@
 // Document 01's bench program: lines of hexadecimal, one frame a line, each decoded as a chunked body.
 #![tactic(auto)]
 
-ghost use Rattle.std.specs.Prelude.{◌≡◌, ◌+◌, ◌≤◌, length};
+ghost use Rattle.std.specs.Prelude.{◌≡◌, ◌+◌, ◌*◌, ◌≤◌, length, take};
 ghost use Rattle.text.specs.Placing.{placed};
 ghost use Rattle.report.specs.Saying.{said};
 ghost use Rattle.report.specs.Calls.{piece_said, piece_held, last_said, Foremost};
-ghost use Rattle.bench.specs.helpers.Fits.{Buffers, PieceFits, LastFits, LineFits};
 
 use std::io::Read;
 
@@ -28,43 +27,40 @@ struct Progress {
     used: usize,
 }
 
+// The bytes held of a line, its frame, the body in that, and the text of what is said.
+#[derive(Drop)]
+struct Buffers {
+    line: [u8; LINE_LENGTH],
+    frame: [u8; ROOM],
+    room: [u8; ROOM],
+    out: [u8; TEXT],
+}
+
 fn main(rt: HostRuntime) {
     let mut piece = [0u8; PIECE];
-    let mut line = [0u8; LINE_LENGTH];
-    let mut frame = [0u8; ROOM];
-    let mut room = [0u8; ROOM];
-    let mut out = [0u8; TEXT];
-    run(&rt, &mut piece, &mut line, &mut frame, &mut room, &mut out);
+    let mut buffers = Buffers {
+        line: [0u8; LINE_LENGTH],
+        frame: [0u8; ROOM],
+        room: [0u8; ROOM],
+        out: [0u8; TEXT],
+    };
+    run(&rt, &mut piece, &mut buffers);
 }
 
 // Reads and writes, which no contract can speak of. What is put to be written, those of `put_piece` and `put_last` say.
-fn run(
-    rt: &(impl Input + Print + Eprint),
-    piece: &mut [u8],
-    line: &mut [u8],
-    frame: &mut [u8],
-    room: &mut [u8],
-    out: &mut [u8],
-)
-    requires { Buffers piece.old line.old frame.old room.old out.old }
+fn run(rt: &(impl Input + Print + Eprint), piece: &mut [u8], buffers: &mut Buffers)
+    requires { 16 * length piece.old + 16 ≤ length buffers.old.out }
 {
-    let held = read_all(rt, piece, line, frame, room, out);
-    let used = put_last(&line[..held], frame, room, out);
-    written(rt, &out[..used]);
+    let held = read_all(rt, piece, buffers);
+    let used = buffers.put_last(held);
+    written(rt, &buffers.out[..used]);
 }
 
 // Answers the lines that end with LF, and gives how many bytes are held of one behind them; 0 once a write failed, so that nothing more
 // is written. A proved loop has to end, and nothing says that an input does, so that the reads are counted.
-fn read_all(
-    rt: &(impl Input + Print + Eprint),
-    piece: &mut [u8],
-    line: &mut [u8],
-    frame: &mut [u8],
-    room: &mut [u8],
-    out: &mut [u8],
-) -> usize
-    requires { Buffers piece.old line.old frame.old room.old out.old }
-    ensures { result ≤ length line.new }
+fn read_all(rt: &(impl Input + Print + Eprint), piece: &mut [u8], buffers: &mut Buffers) -> usize
+    requires { 16 * length piece.old + 16 ≤ length buffers.old.out }
+    ensures { (result ≤ length buffers.new.line) × (length buffers.new.out ≡ length buffers.old.out) }
 {
     let mut input = rt.reader();
     let mut held = 0;
@@ -79,9 +75,9 @@ fn read_all(
         if count == 0 {
             return held;
         }
-        let progress = put_piece(&piece[..count], line, held, frame, room, out);
+        let progress = buffers.put_piece(&piece[..count], held);
         let used = progress.used;
-        if !written(rt, &out[..used]) {
+        if !written(rt, &buffers.out[..used]) {
             return 0;
         }
         held = progress.held;
@@ -105,57 +101,57 @@ fn written(rt: &(impl Print + Eprint), text: &[u8]) -> bool {
     }
 }
 
-// Puts what is said of the lines that end in this piece at the front of `out`, and holds what it begins of the next.
-fn put_piece(
-    piece: &[u8],
-    line: &mut [u8],
-    held: usize,
-    frame: &mut [u8],
-    room: &mut [u8],
-    out: &mut [u8],
-) -> Progress
-    requires { PieceFits piece.now line.old held frame.old room.old out.old }
-    ensures says { Foremost result.used out.new (piece_said line.old held piece.now) }
-    ensures keeps { out.new ≡ placed out.old 0 (piece_said line.old held piece.now) }
-    ensures holds { Foremost result.held line.new (piece_held line.old held piece.now) }
-{
-    let mut at = 0;
-    let mut begun = held;
-    let mut used = 0;
-    while at < piece.len() {
-        let gathered = lines::gather(&piece[at..], line, begun);
-        let held = gathered.held;
-        at += gathered.taken;
-        if gathered.ended {
-            used = put_line(&line[..held], frame, room, out, used);
-            begun = 0;
-        } else {
-            begun = held;
+impl Buffers {
+    // Puts what is said of the lines that end in this piece at the front of `out`, and holds what it begins of the next.
+    fn put_piece(&mut self, piece: &[u8], held: usize) -> Progress
+        requires { (16 * length piece.now + 16 ≤ length self.old.out) × (held ≤ length self.old.line) }
+        ensures says { Foremost result.used self.new.out (piece_said self.old.line held piece.now) }
+        ensures keeps { self.new.out ≡ placed self.old.out 0 (piece_said self.old.line held piece.now) }
+        ensures holds { Foremost result.held self.new.line (piece_held self.old.line held piece.now) }
+    {
+        let mut at = 0;
+        let mut begun = held;
+        let mut used = 0;
+        // a cursor: a turn takes one line
+        while at < piece.len() {
+            let gathered = lines::gather(&piece[at..], &mut self.line, begun);
+            at += gathered.taken;
+            if gathered.ended {
+                used = self.put_line(gathered.held, used);
+                begun = 0;
+            } else {
+                begun = gathered.held;
+            }
         }
+        Progress { held: begun, used }
     }
-    Progress { held: begun, used }
-}
 
-// At the end of input: puts what is said of the bytes held, if there are any, at the front of `out`.
-fn put_last(line: &[u8], frame: &mut [u8], room: &mut [u8], out: &mut [u8]) -> usize
-    requires { LastFits frame.old room.old out.old }
-    ensures says { Foremost result out.new (last_said line.now) }
-    ensures keeps { out.new ≡ placed out.old 0 (last_said line.now) }
-{
-    if line.is_empty() {
-        return 0;
+    // At the end of input: puts what is said of the bytes held, if there are any, at the front of `out`.
+    fn put_last(&mut self, held: usize) -> usize
+        requires { held ≤ length self.old.line }
+        ensures says { Foremost result self.new.out (last_said (take held self.old.line)) }
+        ensures keeps { self.new.out ≡ placed self.old.out 0 (last_said (take held self.old.line)) }
+    {
+        if self.line[..held].is_empty() {
+            return 0;
+        }
+        self.put_line(held, 0)
     }
-    put_line(line, frame, room, out, 0)
-}
 
-// Puts what is said of a line at `at`, and gives the place behind it.
-fn put_line(line: &[u8], frame: &mut [u8], room: &mut [u8], out: &mut [u8], at: usize) -> usize
-    requires { LineFits line.now frame.old room.old out.old at }
-    ensures ends { result ≡ at + length (said line.now) }
-    ensures says { out.new ≡ placed out.old at (said line.now) }
-{
-    match lines::from_hex(line, frame) {
-        Some(count) => report::put_answer(chunked::decode(&frame[..count], room), out, at),
-        None => text::put_bytes(b"X\n", out, at),
+    // Puts what is said of the line that is held at `at`, and gives the place behind it.
+    fn put_line(&mut self, held: usize, at: usize) -> usize
+        requires { (held ≤ length self.old.line) × (at + 16 ≤ length self.old.out) }
+        ensures ends { result ≡ at + length (said (take held self.old.line)) }
+        ensures says { self.new.out ≡ placed self.old.out at (said (take held self.old.line)) }
+        ensures lines { self.new.line ≡ self.old.line }
+    {
+        match lines::from_hex(&self.line[..held], &mut self.frame) {
+            Some(count) => report::put_answer(
+                chunked::decode(&self.frame[..count], &mut self.room),
+                &mut self.out,
+                at,
+            ),
+            None => text::put_bytes(b"X\n", &mut self.out, at),
+        }
     }
 }

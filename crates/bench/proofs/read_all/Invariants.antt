@@ -1,8 +1,7 @@
--- `bench::read_all` meets its contract. The buffers keep their lengths.
-use Rattle.bench.specs.helpers.Fits.{Buffers}
-use Rattle.std.proofs.Common.{◌≤◌, length}
+-- `bench::read_all` meets its contract. The piece keeps its length, and a line's bytes fit.
+use Rattle.std.proofs.Common.{◌≡◌, ◌≤◌, length}
 use Rattle.bench.proofs.read_all.Given as goal
 
 abbrev pub invariant-reads : goal.invariant-reads
 invariant-reads g l =
-    Buffers l.piece l.line l.frame l.room l.out × (l.held ≤ length l.line)
+    (length l.piece ≤ 16384) × (length l.buffers.out ≡ 262160) × (l.held ≤ length l.buffers.line)
