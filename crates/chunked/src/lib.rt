@@ -310,16 +310,30 @@ fn again(input: &[u8], last: ChunkLine, at: usize, left: usize) -> bool
 }
 
 // Are the lines of `count` bytes at `a` and at `b` the same? Most have 4 to 8 bytes: two words, which may overlap, are all of them (with
-// the wide copies of `copying`, 0.6 of the time at chunks of 16 with an extension, 0.8 at chunks of 256).
+// the wide copies of `copying`, 0.6 of the time at chunks of 16 with an extension, 0.8 at chunks of 256; with `||` in place of the first
+// two tests, 1.05 times the instructions at chunks of 16).
 fn same_line(input: &[u8], a: usize, b: usize, count: usize) -> bool
     requires { (a + count ≤ length input.now) × (b + count ≤ length input.now) }
     ensures { result ≡ true → SameAt input.now a b count }
 {
-    if count < 4 || count > 8 {
-        return input[a..a + count] == input[b..b + count];
+    if count < 4 {
+        return same_bytes(input, a, b, count);
+    }
+    if count > 8 {
+        return same_bytes(input, a, b, count);
+    }
+    if word(input, a) != word(input, b) {
+        return false;
     }
     let rest = count - 4;
-    word(input, a) == word(input, b) && word(input, a + rest) == word(input, b + rest)
+    word(input, a + rest) == word(input, b + rest)
+}
+
+fn same_bytes(input: &[u8], a: usize, b: usize, count: usize) -> bool
+    requires { (a + count ≤ length input.now) × (b + count ≤ length input.now) }
+    ensures { result ≡ true → SameAt input.now a b count }
+{
+    octets::same(&input[a..a + count], &input[b..b + count])
 }
 
 // Four bytes as one number, which is loaded whole.
