@@ -6,7 +6,7 @@ use Rattle.grammar.specs.Comparing.{outcome, compare}
 use Rattle.grammar.specs.Reading as Header
 use Rattle.grammar.specs.Reading.{value}
 use Rattle.grammar.specs.helpers.Judge.{header}
-use Rattle.version.specs.declared.Order.TheVariants.{Less}
+use Rattle.std.specs.declared.cmp.Ordering.TheVariants.{Less}
 use Rattle.version.specs.Grammar as VersionGrammar
 use Rattle.version.specs.Reading.{precedence}
 use Rattle.date.specs.Reading as DateReading
