@@ -6,7 +6,7 @@ use mathlib.Core.List.{List}
 use Rattle.octets.specs.Case.{alike}
 use Rattle.media.specs.declared.Parameter.{Parameter}
 use Rattle.media.specs.Grammar.{part_at}
-use Rattle.media_equal.specs.Meaning.{unquoted, charset_name, same_text, same_setting}
+use Rattle.media_equal.specs.Meaning.{charset_name, same_text, same_setting}
 use Rattle.media_equal.specs.Places.{setting_at}
 
 pub fails : (r x y : Bool) → r ≡ x → r ≡ false → false ≡ (x && y)
@@ -23,7 +23,6 @@ module _ (a b : List ℕ) (p q : Parameter) (x y : List ℕ) (t : Bool) (d : x �
   pub names-differ : t ≡ false → false ≡ same_setting (setting_at a p) (setting_at b q)
   names-differ g = sym (rw (names, g))
 
-  pub by_values : t ≡ true → (v w : List ℕ) (i r : Bool) → v ≡ part_at a p.value_start p.value_length
-      → w ≡ part_at b q.value_start q.value_length
-      → i ≡ alike x charset_name → r ≡ same_text i (unquoted p.quoted v) (unquoted q.quoted w) → r ≡ same_setting (setting_at a p) (setting_at b q)
+  pub by_values : t ≡ true → (v w : List ℕ) (i r : Bool) → v ≡ (setting_at a p).value → w ≡ (setting_at b q).value
+      → i ≡ alike x charset_name → r ≡ same_text i v w → r ≡ same_setting (setting_at a p) (setting_at b q)
   by_values g v w i r h k m n = n ∙ sym (rw (names, g, ← d, ← m, ← h, ← k))

@@ -1,4 +1,5 @@
 pub mod Unquoted
+pub mod Items
 pub mod Tables
 pub mod Compared
 pub mod Places

@@ -1,17 +1,45 @@
 // Media types compared by what they mean: RFC 2616 3.7.
 #![tactic(auto)]
 
-ghost use Rattle.std.specs.Prelude.{◌≡◌, ◌<◌, length};
+ghost use Rattle.std.specs.Prelude.{◌≡◌};
+ghost use Rattle.std.specs.Iterator.{YieldsFirst, item_count};
 ghost use Rattle.std.specs.List.{list_any, list_all};
 ghost use Rattle.octets.specs.Comparing.{comparison};
 ghost use Rattle.media.specs.Reading.{read_already};
 ghost use Rattle.media_equal.specs.Meaning.{unquoted, same_text, same_setting, same_meaning};
 ghost use Rattle.media_equal.specs.Places.{setting_at, meaning_at};
 ghost use Rattle.media_equal.specs.Reading.{equality};
-ghost use Rattle.media_equal.specs.helpers.Places.{same_names, same_byte, UnquotedAt};
+ghost use Rattle.media_equal.specs.helpers.Places.{same_names};
 
 use media::{Media, MediaType, Parameter, part};
 use octets::PairRefusal;
+
+// The bytes that a value stands for, one by one, given what is left of the value.
+#[derive(Drop)]
+struct UnquotedBytes<'a> {
+    rest: &'a [u8],
+    quoted: bool,
+}
+
+impl<'a> Iterator for UnquotedBytes<'a> {
+    type Item = u8;
+
+    ghost next_gives = { YieldsFirst (λ s. unquoted s.quoted s.rest.now) };
+
+    ghost remaining = { item_count (λ s. unquoted s.quoted s.rest.now) };
+
+    fn next(&mut self) -> Option<u8> {
+        if self.quoted
+            && let [b'\\', byte, rest @ ..] = self.rest
+        {
+            self.rest = rest;
+            return Some(*byte);
+        }
+        let (first, rest) = self.rest.split_first()?;
+        self.rest = rest;
+        Some(*first)
+    }
+}
 
 // Reads the first, then the second, and compares what they mean.
 pub fn equal(a: &[u8], b: &[u8]) -> Result<bool, PairRefusal>
@@ -79,55 +107,26 @@ fn same_parameter(a: &[u8], p: Parameter, b: &[u8], q: Parameter) -> bool
         return false;
     }
     let folded = octets::same_ignoring_case(x, b"charset");
-    let v = part(a, p.value_start, p.value_length);
-    let w = part(b, q.value_start, q.value_length);
-    same_value(v, p.quoted, w, q.quoted, folded)
+    same_value(value(a, p), value(b, q), folded)
 }
 
-// Do two values stand for the same bytes?
-fn same_value(a: &[u8], quoted_a: bool, b: &[u8], quoted_b: bool, folded: bool) -> bool
-    ensures { result ≡ same_text folded (unquoted quoted_a a.now) (unquoted quoted_b b.now) }
+// The value of a parameter, as what it stands for.
+fn value(s: &[u8], p: Parameter) -> UnquotedBytes<'_>
+    ensures { unquoted result.quoted result.rest.now ≡ (setting_at s.now p).value }
 {
-    let mut i = 0;
-    let mut j = 0;
-    while i < a.len() {
-        if b.len() <= j {
-            return false;
-        }
-        let k = unquoted_place(a, i, quoted_a);
-        let l = unquoted_place(b, j, quoted_b);
-        if !same_byte(a[k], b[l], folded) {
-            return false;
-        }
-        i = k + 1;
-        j = l + 1;
+    UnquotedBytes {
+        rest: part(s, p.value_start, p.value_length),
+        quoted: p.quoted,
     }
-    b.len() <= j
 }
 
-fn same_byte(x: u8, y: u8, folded: bool) -> bool
-    ensures { result ≡ same_byte folded x y }
+// Do two values stand for the same bytes, letter case ignored or not?
+fn same_value(v: UnquotedBytes<'_>, w: UnquotedBytes<'_>, folded: bool) -> bool
+    ensures { result ≡ same_text folded (unquoted v.entry.quoted v.entry.rest.now) (unquoted w.entry.quoted w.entry.rest.now) }
 {
     if folded {
-        octets::lower_case(x) == octets::lower_case(y)
+        v.map(octets::lower_case).eq(w.map(octets::lower_case))
     } else {
-        x == y
+        v.eq(w)
     }
-}
-
-// The place of the byte that the one at `i` stands for: behind the backslash of a pair, or `i` itself.
-fn unquoted_place(s: &[u8], i: usize, quoted: bool) -> usize
-    requires { i < length s.now }
-    ensures { UnquotedAt s.now quoted i result }
-{
-    if !quoted {
-        return i;
-    }
-    if s[i] != b'\\' {
-        return i;
-    }
-    if s.len() <= i + 1 {
-        return i;
-    }
-    i + 1
 }

@@ -15,4 +15,4 @@ returns c =
     let t = c.same_ignoring_case in
     by_values x.a.now x.b.now x.p x.q _ _ t.result c.part-x.ensures c.part-y.ensures t.ensures
     c.if-not-same_ignoring_case.false _ _ _ _
-    c.part-v.ensures c.part-w.ensures c.same_ignoring_case-folded.ensures c.same_value.ensures
+    c.value.ensures c.value-2.ensures c.same_ignoring_case-folded.ensures c.same_value.ensures

@@ -1,38 +1,26 @@
--- `media_equal::same_value` meets its contract: what is left of both is the same just where the whole is.
-use mathlib.Core.Path.{refl, sym, ◌∙◌}
-use Rattle.media_equal.proofs.Unquoted.{first-longer, both-ended, differ, agree}
+-- `media_equal::same_value` meets its contract: by the bytes that both iterators give.
+use Rattle.std.proofs.Common.{ℕ, List, rules, refl, ◌∙◌}
+use Rattle.std.proofs.lemmas.Iterator.{YieldsList-from_map}
+use Rattle.std.proofs.lemmas.Iterator.Consumers.{YieldsList-from_first, YieldsList-at}
+use Rattle.grammar.specs.Grammar.{lower}
+use Rattle.media_equal.specs.declared.UnquotedBytes.{UnquotedBytes}
+use Rattle.media_equal.specs.Meaning.{unquoted}
+use Rattle.media_equal.proofs.Items.{eq-items, same-mapped}
 use Rattle.media_equal.proofs.same_value.Goals as goal
 
-pub loop-i-init : goal.loop-i-init
-loop-i-init c = refl
+abbrev left : UnquotedBytes → List ℕ
+left s = unquoted s.quoted s.rest.now
 
-pub returns-then-b-j : goal.returns-then-b-j
-returns-then-b-j c =
-    let l = c.loop-i in
+pub returns-then-folded : goal.returns-then-folded
+returns-then-folded c =
     let x = c.args in
-    sym (first-longer x.folded x.quoted_a x.quoted_b x.a.now x.b.now l.i l.j c.loop-i-test.true c.if-b-j.true)
-    ∙ l.invariant
+    rw c.if-folded.true (
+    eq-items c.eq.result c.eq.ensures.ran
+    (YieldsList-from_map _ lower (YieldsList-at c.map.ensures.source (YieldsList-from_first (λ b. b) left _ refl)) c.map.ensures.closure (λ y r q k. search rules))
+    (YieldsList-from_map _ lower (YieldsList-at c.map-then-folded.ensures.source (YieldsList-from_first (λ b. b) left _ refl)) c.map-then-folded.ensures.closure (λ y r q k. search rules))
+    ∙ same-mapped lower (left x.v) (left x.w))
 
-pub returns-then-not-same_byte : goal.returns-then-not-same_byte
-returns-then-not-same_byte c =
-    let l = c.loop-i in
-    let x = c.args in
-    let t = c.same_byte in
-    differ x.folded c.unquoted_place-k.ensures c.unquoted_place-l.ensures t.result t.ensures
-    c.if-not-same_byte.true
-    ∙ l.invariant
-
-pub loop-i-preserved : goal.loop-i-preserved
-loop-i-preserved c =
-    let l = c.loop-i in
-    let x = c.args in
-    let t = c.same_byte in
-    agree x.folded c.unquoted_place-k.ensures c.unquoted_place-l.ensures t.result t.ensures
-    c.if-not-same_byte.false
-    ∙ l.invariant
-
-pub returns : goal.returns
-returns c =
-    let l = c.loop-i in
-    let x = c.args in
-    both-ended x.folded x.quoted_a x.quoted_b x.a.now x.b.now l.i l.j c.loop-i-test.false ∙ l.invariant
+pub returns-else-folded : goal.returns-else-folded
+returns-else-folded c =
+    rw c.if-folded.false (
+    eq-items c.eq-else-folded.result c.eq-else-folded.ensures.ran (YieldsList-from_first (λ b. b) left _ refl) (YieldsList-from_first (λ b. b) left _ refl))
