@@ -1,4 +1,4 @@
--- Values without their quotes.
+-- Values without their quotes: a byte that begins no pair stands for itself.
 use Rattle.std.proofs.Common.{◌≡◌, ℕ, List, [], ◌∷◌, refl, ne_eqb}
 use Rattle.media_equal.specs.Meaning.{unescaped}
 

@@ -29,15 +29,13 @@ impl<'a> Iterator for UnquotedBytes<'a> {
     ghost remaining = { item_count (λ s. unquoted s.quoted s.rest.now) };
 
     fn next(&mut self) -> Option<u8> {
-        if self.quoted
-            && let [b'\\', byte, rest @ ..] = self.rest
-        {
-            self.rest = rest;
-            return Some(*byte);
-        }
-        let (first, rest) = self.rest.split_first()?;
+        let (byte, rest) = match self.rest {
+            [b'\\', second, rest @ ..] if self.quoted => (second, rest),
+            [first, rest @ ..] => (first, rest),
+            [] => return None,
+        };
         self.rest = rest;
-        Some(*first)
+        Some(*byte)
     }
 }
 

@@ -14,13 +14,16 @@ left s = unquoted s.quoted s.rest.now
 pub returns-then-folded : goal.returns-then-folded
 returns-then-folded c =
     let x = c.args in
+    let m = c.map in
+    let n = c.map-then-folded in
     rw c.if-folded.true (
     eq-items c.eq.result c.eq.ensures.ran
-    (YieldsList-from_map _ lower (YieldsList-at c.map.ensures.source (YieldsList-from_first (λ b. b) left _ refl)) c.map.ensures.closure (λ y r q k. search rules))
-    (YieldsList-from_map _ lower (YieldsList-at c.map-then-folded.ensures.source (YieldsList-from_first (λ b. b) left _ refl)) c.map-then-folded.ensures.closure (λ y r q k. search rules))
-    ∙ same-mapped lower (left x.v) (left x.w))
+    (YieldsList-from_map _ lower (YieldsList-at m.ensures.source (YieldsList-from_first (λ b. b) left _ refl)) m.ensures.closure (λ y r q k. search rules))
+    (YieldsList-from_map _ lower (YieldsList-at n.ensures.source (YieldsList-from_first (λ b. b) left _ refl)) n.ensures.closure (λ y r q k. search rules))
+    ∙ same-mapped lower (left x.v) (left x.w)
+    )
 
 pub returns-else-folded : goal.returns-else-folded
 returns-else-folded c =
-    rw c.if-folded.false (
-    eq-items c.eq-else-folded.result c.eq-else-folded.ensures.ran (YieldsList-from_first (λ b. b) left _ refl) (YieldsList-from_first (λ b. b) left _ refl))
+    rw c.if-folded.false
+    (eq-items c.eq-else-folded.result c.eq-else-folded.ensures.ran (YieldsList-from_first (λ b. b) left _ refl) (YieldsList-from_first (λ b. b) left _ refl))
