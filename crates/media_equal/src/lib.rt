@@ -43,14 +43,8 @@ impl<'a> Iterator for UnquotedBytes<'a> {
 pub fn equal(a: &[u8], b: &[u8]) -> Result<bool, PairRefusal>
     ensures { comparison result ≡ equality a.now b.now }
 {
-    let first = media::read(a).map_err(PairRefusal::First);
-    let Ok(m) = first else {
-        return first.map(|_| false);
-    };
-    let second = media::read(b).map_err(PairRefusal::Second);
-    let Ok(n) = second else {
-        return second.map(|_| false);
-    };
+    let m = media::read(a).map_err(PairRefusal::First)?;
+    let n = media::read(b).map_err(PairRefusal::Second)?;
     Ok(same_media(a, &m, b, &n))
 }
 

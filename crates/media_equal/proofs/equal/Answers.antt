@@ -1,6 +1,6 @@
 -- `media_equal::equal` meets its contract: by the two readings, and what each says.
-use Rattle.std.proofs.Common.{◌≡◌, Result, Ok, Err, MatchResult, IsErrAnd, sym, refl, ap, ap₂, ◌∙◌}
-use Rattle.std.proofs.lemmas.Result.{MatchResult-at_err}
+use Rattle.std.proofs.Common.{◌≡◌, Bool, Result, Ok, Err, MatchResult, IsErrAnd, sym, refl, ap, ap₂, ◌∙◌}
+use Rattle.octets.specs.Comparing.{comparison}
 use Rattle.grammar.specs.Comparing.{compare, outcome}
 use Rattle.grammar.specs.helpers.Judge.{header}
 use Rattle.octets.specs.declared.Refusal.{Refusal}
@@ -26,30 +26,34 @@ kept f (Ok x) y u h k = let e = sym h ∙ k in cc
 kept f (Err e) (Ok v) u h k = absurd h
 kept f (Err e) (Err v) u h k = absurd cc
 
-pub returns-in_default : goal.returns-in_default
-returns-in_default c =
-    let x = c.args in
-    let m = mapped First c.read.result c.map_err-first.result c.in_default.field-0 c.map_err-first.ensures.cases c.in_default.is in
-    let r = refused-alike x.a.now m.0 (sym (ap verdict m.1) ∙ c.read.ensures.0) in
-    let e = MatchResult-at_err _ (λ d. c.map.result ≡ Err d) _ c.in_default.is c.map.ensures.cases in
-    rw (e, m.2) (sym (ap (λ v. compare same_meaning v (header meanings x.b.now)) r))
+-- the error that `?` passes on
+passed : (r : Result Bool PairRefusal) (z : PairRefusal) → IsErrAnd r (λ y. y ≡ z) → comparison r ≡ comparison (Err z)
+passed (Ok b) z h = absurd h
+passed (Err u) z h = ap (λ (y : PairRefusal). comparison {T = Bool} (Err y)) h
 
-pub returns-in_default-second : goal.returns-in_default-second
-returns-in_default-second c =
+pub returns-in_err-m : goal.returns-in_err-m
+returns-in_err-m c =
     let x = c.args in
-    let d = c.in_default-second in
-    let o = kept First c.read.result c.map_err-first.result _ c.map_err-first.ensures.cases c.in-Ok.is in
-    let k = read-means x.a.now c.in-Ok.m (sym (ap verdict o) ∙ c.read.ensures.0) in
-    let m = mapped Second c.read-2.result c.map_err-second.result d.field-0 c.map_err-second.ensures.cases d.is in
+    let m = mapped First c.read.result c.map_err.result c.in_err-m.field-0.0 c.map_err.ensures.cases c.in_err-m.was in
+    let r = refused-alike x.a.now m.0 (sym (ap verdict m.1) ∙ c.read.ensures.0) in
+    passed c.from_residual.result _ c.from_residual.ensures.1
+    ∙ rw m.2 (sym (ap (λ v. compare same_meaning v (header meanings x.b.now)) r))
+
+pub returns-in_err-n : goal.returns-in_err-n
+returns-in_err-n c =
+    let x = c.args in
+    let o = kept First c.read.result c.map_err.result _ c.map_err.ensures.cases c.in_ok-m.was in
+    let k = read-means x.a.now c.in_ok-m.m (sym (ap verdict o) ∙ c.read.ensures.0) in
+    let m = mapped Second c.read-2.result c.map_err-2.result c.in_err-n.field-0.0 c.map_err-2.ensures.cases c.in_err-n.was in
     let r = refused-alike x.b.now m.0 (sym (ap verdict m.1) ∙ c.read-2.ensures.0) in
-    let e = MatchResult-at_err _ (λ z. c.map-in_default-second.result ≡ Err z) _ d.is c.map-in_default-second.ensures.cases in
-    rw (e, m.2) (sym (ap₂ (compare same_meaning) k r))
+    passed c.from_residual-in_err-n.result _ c.from_residual-in_err-n.ensures.1
+    ∙ rw m.2 (sym (ap₂ (compare same_meaning) k r))
 
 pub returns : goal.returns
 returns c =
     let x = c.args in
-    let o = kept First c.read.result c.map_err-first.result _ c.map_err-first.ensures.cases c.in-Ok.is in
-    let q = kept Second c.read-2.result c.map_err-second.result _ c.map_err-second.ensures.cases c.in-Ok-second.is in
-    let k = read-means x.a.now c.in-Ok.m (sym (ap verdict o) ∙ c.read.ensures.0) in
-    let l = read-means x.b.now c.in-Ok-second.n (sym (ap verdict q) ∙ c.read-2.ensures.0) in
+    let o = kept First c.read.result c.map_err.result _ c.map_err.ensures.cases c.in_ok-m.was in
+    let q = kept Second c.read-2.result c.map_err-2.result _ c.map_err-2.ensures.cases c.in_ok-n.was in
+    let k = read-means x.a.now c.in_ok-m.m (sym (ap verdict o) ∙ c.read.ensures.0) in
+    let l = read-means x.b.now c.in_ok-n.n (sym (ap verdict q) ∙ c.read-2.ensures.0) in
     ap outcome c.same_media.ensures ∙ sym (ap₂ (compare same_meaning) k l)
