@@ -1,12 +1,13 @@
 -- What the writer's parts leave in the lent bytes: a number, a chunk, and the chunks so far.
 use mathlib.Core.Path.{◌≡◌, refl, sym, ◌∙◌, ap, ap₂, subst}
 use mathlib.Core.List.{List, [], ◌++◌, append_assoc}
-use Prim.Native.Nat.{ℕ, ◌+◌, ◌-◌, ◌<◌, ◌≤◌, min}
+use Prim.Native.Nat.{ℕ, ◌+◌, ◌<◌, ◌≤◌, min}
 use native.Mathlib.Omega.{arith}
 use lib.ListN.{length, take, drop, length-append, length-drop, drop_of_length-le}
 use lib.Seq.{take-add, take_at, take_all, drop_at, drop-drop, drop-append-add, length-take-le}
 use lib.Dec.{leb}
 use borrow.Author.Tests.{leb-true, leb-false}
+use Rattle.std.proofs.lemmas.List.{nil_from_length}
 use Rattle.grammar.specs.Text.{bytes}
 use Rattle.numerals.specs.Numeral.{numeral}
 use Rattle.text.specs.Placing.{placed, behind}
@@ -64,22 +65,21 @@ cut-alike n k xs e = split-test (leb n (length xs))
     ))
 
 -- ## The chunks so far
--- i bytes of the body are framed in o bytes, and what is still to come is the frame of the others
-pub record Framed (body : List ℕ) (n : ℕ) (old new : List ℕ) (i o : ℕ) : Type 0 where
-  pub inside : i ≤ length body
+-- the body is framed in o bytes as far as the rest, and what is still to come is the frame of the rest
+pub record Framed (body : List ℕ) (n : ℕ) (old new rest : List ℕ) (o : ℕ) : Type 0 where
   pub reach : o ≤ length (frame body n)
   pub is : new ≡ take o (frame body n) ++ drop o old
-  pub ahead : drop o (frame body n) ≡ frame (drop i body) n
+  pub ahead : drop o (frame body n) ≡ frame rest n
 
-pub framed-start : {body : List ℕ} {n : ℕ} {old : List ℕ} → Framed body n old old 0 0
-framed-start = record { inside = omega arith; reach = omega arith; is = refl; ahead = refl }
+pub framed-start : {body : List ℕ} {n : ℕ} {old rest : List ℕ} → rest ≡ body → Framed body n old old rest 0
+framed-start {body} {n} e = record { reach = omega arith; is = refl; ahead = ap (λ (z : List ℕ). frame z n) (sym e) }
 
-module _ {body : List ℕ} {n : ℕ} {old new : List ℕ} {i o : ℕ} (fits : length (frame body n) ≤ length old)
-    (h : Framed body n old new i o) where
+module _ {body : List ℕ} {n : ℕ} {old new rest : List ℕ} {o : ℕ} (fits : length (frame body n) ≤ length old)
+    (h : Framed body n old new rest o) where
   begun : length (take o (frame body n)) ≡ o
   begun = length-take-le o (frame body n) h.reach
 
-  pub framed-length : length new ≡ length old
+  framed-length : length new ≡ length old
   framed-length = omega (arith, ap length h.is, length-append (take o (frame body n)) (drop o old), begun, length-drop o old)
 
   -- the frame goes on with xs, which is written
@@ -103,38 +103,29 @@ module _ {body : List ℕ} {n : ℕ} {old new : List ℕ} {i o : ℕ} (fits : le
             ∙ sym (take-add o (length xs) (frame body n))),
       )
 
-  module _ {k : ℕ} (pos : 0 < n) (lt : i < length body) (e : k ≡ min n (length body - i)) where
-    alike : (take n (drop i body) ≡ take k (drop i body)) × (drop n (drop i body) ≡ drop k (drop i body))
-    alike = cut-alike n k (drop i body) (e ∙ ap (min n) (sym (length-drop i body)))
+  -- the next part, and what is left behind it
+  module _ (part more : List ℕ) (pos : 0 < n) (e : rest ≡ part ++ more) (size : length part ≡ min n (length rest)) (some : 0 < length rest) where
+    piece : (take n rest ≡ part) × (drop n rest ≡ more)
+    piece =
+        let c = cut-alike n (length part) rest size in (
+          c.0 ∙ ap (take (length part)) e ∙ take_at part more (length part) refl,
+          c.1 ∙ ap (drop (length part)) e ∙ drop_at part more (length part) refl,
+        )
 
-    count : k ≡ i + k - i
-    count = omega arith
+    split : drop o (frame body n) ≡ chunk part ++ frame more n
+    split = h.ahead ∙ frame-some n rest pos some ∙ ap₂ (λ (y z : List ℕ). chunk y ++ frame z n) piece.0 piece.1
 
-    piece : take n (drop i body) ≡ take (i + k - i) (drop i body)
-    piece = alike.0 ∙ ap (λ (m : ℕ). take m (drop i body)) count
+    pub framed-fits : o + length (chunk part) ≤ length new
+    framed-fits = omega (arith, (goes_on (chunk part) (frame more n) split).0, framed-length)
 
-    after-piece : drop n (drop i body) ≡ drop (i + k) body
-    after-piece = alike.1 ∙ drop-drop k i body
-
-    split : drop o (frame body n) ≡ chunk (take (i + k - i) (drop i body)) ++ frame (drop (i + k) body) n
-    split =
-        h.ahead
-        ∙ frame-some n (drop i body) pos (omega (arith, length-drop i body))
-        ∙ ap₂ (λ (y z : List ℕ). chunk y ++ frame z n) piece after-piece
-
-    pub framed-fits : o + length (chunk (take (i + k - i) (drop i body))) ≤ length new
-    framed-fits = omega (arith, (goes_on (chunk (take (i + k - i) (drop i body))) (frame (drop (i + k) body) n) split).0, framed-length)
-
-    pub framed-on : {new' : List ℕ} {o' : ℕ} → o' ≡ o + length (chunk (take (i + k - i) (drop i body)))
-        → new' ≡ placed new o (chunk (take (i + k - i) (drop i body))) → Framed body n old new' (i + k) o'
+    pub framed-on : {new' : List ℕ} {o' : ℕ} → o' ≡ o + length (chunk part) → new' ≡ placed new o (chunk part) → Framed body n old new' more o'
     framed-on {new'} {o'} at wrote =
-        let g = goes_on (chunk (take (i + k - i) (drop i body))) (frame (drop (i + k) body) n) split in
-        subst (λ (p : ℕ). Framed body n old new' (i + k) p) (sym at)
-        record { inside = omega arith; reach = g.0; is = wrote ∙ g.2; ahead = g.1 }
+        let g = goes_on (chunk part) (frame more n) split in
+        subst (λ (p : ℕ). Framed body n old new' more p) (sym at) record { reach = g.0; is = wrote ∙ g.2; ahead = g.1 }
 
-  module _ (done : length body ≤ i) where
+  module _ (done : length rest ≡ 0) where
     last : drop o (frame body n) ≡ end ++ []
-    last = h.ahead ∙ ap (λ (z : List ℕ). frame z n) (drop_of_length-le body {i = i} done) ∙ frame-none n
+    last = h.ahead ∙ ap (λ (z : List ℕ). frame z n) (nil_from_length rest done) ∙ frame-none n
 
     pub framed-all : {new' : List ℕ} → new' ≡ placed new o end → new' ≡ placed old 0 (frame body n)
     framed-all {new'} wrote =

@@ -62,12 +62,9 @@ fn put_frame(body: &[u8], chunk_len: usize, out: &mut [u8])
 {
     let line = size_line(chunk_len);
     let width = numerals::width(chunk_len as u64, Base::Hex) + 2;
-    let mut taken = 0;
     let mut at = 0;
-    while taken < body.len() {
-        let size = chunk_len.min(body.len() - taken);
-        at = put_part(&body[taken..taken + size], chunk_len, line, width, out, at);
-        taken += size;
+    for part in body.chunks(chunk_len) {
+        at = put_part(part, chunk_len, line, width, out, at);
     }
     put_end(out, at);
 }
