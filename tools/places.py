@@ -20,6 +20,15 @@ def lines(pattern):
                 yield f"{crate}:{n}: {code.strip()}"
 
 
+def refusals():
+    """The lines that use a constant of a refusal's number: neither its declaration nor an import."""
+    names = "MALFORMED NUMBER_ABOVE_LIMIT NO_SUCH_DATE WRONG_DAY_NAME LINE_TOO_LONG TRAILER_TOO_LONG BODY_TOO_LARGE OUTPUT_TOO_SHORT"
+    names += " OUT_OF_RANGE TOO_MANY_PARAMETERS REPEATED_ATTRIBUTE COMMENT_TOO_DEEP VALUE_TOO_LONG FRAMED_TOO_LONG FORBIDDEN_FIELD"
+    for line in lines(rf"\b({'|'.join(names.split())})\b"):
+        if not re.search(r": (pub const|use) |: [A-Z_, {}]*$", line):
+            yield line
+
+
 def functions():
     """Each function: crate, name, signature with clauses, body."""
     for crate, text in sources():
@@ -60,7 +69,7 @@ POINTS = {
     "1 enums": lambda: lines(r"^\s*(pub )?enum "),
     "1 flags": lambda: lines(r"^\s*(pub )?\w+: bool,"),
     "1 none by a number": lambda: lines(r"(length|size|number|refused|agreed|on|bits|\btwo) [=!]= 0|NO_[A-Z]+\b"),
-    "1 numbers of refusals": lambda: lines(r"\b[A-Z]+(_[A-Z]+)+ *(as \w+ *)?(,|\)|=>)|\bnumber(: u8|,|:)"),
+    "1 numbers of refusals": refusals,
     "2 twins": twins,
     "3 loops": lambda: lines(r"^\s*(let .*= )?('\w+: )?(while|loop)\b"),
     "4 by hand": lambda: lines(r"fn (same|max|least|back|compare|equal|\w+_of|part|between|as_\w+|\w+_fields)\("),
