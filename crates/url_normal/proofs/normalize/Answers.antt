@@ -6,27 +6,27 @@ use Rattle.url_normal.proofs.Lengths.{form-short}
 use Rattle.url_normal.proofs.Answers.{readable_short, refused_as, read_as}
 use Rattle.url_normal.proofs.normalize.Goals as goal
 
-pub returns-in_err-u : goal.returns-in_err-u
-returns-in_err-u c =
+pub returns-in_err-url : goal.returns-in_err-url
+returns-in_err-url c =
     let x = c.args in
     let p = err_from_is_err_and c.from_residual.result c.from_residual.ensures.1 in
-    let e = refused_as x.s.now _ _ (sym c.in_err-u.ensures) in
+    let e = refused_as x.s.now _ _ (sym c.in_err-url.ensures) in
     record {
       answers = rw (p.1, p.2) (sym (ap (λ v. answer_in_room v (length x.out.now)) e));
       writes = sym (ap (λ v. output_after v x.out.now) e);
     }
 
-pub write_parts-requires : goal.write_parts-requires
-write_parts-requires c =
+pub invariant_of-write : goal.invariant_of-write
+invariant_of-write c =
     let x = c.args in
-    let e = sym c.in_ok-u.ensures in
-    (readable_short x.s.now _ e, form-short x.s.now _ e)
+    let e = sym c.in_ok-url.ensures in
+    record { text_within_limit = readable_short x.s.now _ e; one_longer = form-short x.s.now _ e }
 
 pub returns : goal.returns
 returns c =
-    let w = c.write_parts in
+    let w = c.write in
     let x = c.args in
-    let e = read_as x.s.now _ (sym c.in_ok-u.ensures) in
+    let e = read_as x.s.now _ (sym c.in_ok-url.ensures) in
     record {
       answers = w.ensures.answers ∙ sym (ap (λ v. answer_in_room v (length x.out.now)) e);
       writes = w.ensures.writes ∙ sym (ap (λ v. output_after v x.out.now) e);

@@ -1,4 +1,4 @@
--- `url_normal::put_parts` meets its contract: its parts stand one behind the other.
+-- `url_normal::Parsed::put` meets its contract: its parts stand one behind the other.
 use native.Mathlib.Omega.{arith}
 use mathlib.Core.Path.{ap, ◌∙◌}
 use lib.ListN.{length}
@@ -8,14 +8,14 @@ use Rattle.escapes.specs.Resolved.{resolved}
 use Rattle.url_equal.specs.Meaning.{lower_all}
 use Rattle.url_equal.specs.Places.{page_in}
 use Rattle.url_normal.proofs.Writer.{lower-length, host-fits, port-fits, query-fits, normal-put}
-use Rattle.url_normal.proofs.put_parts.Goals as goal
+use Rattle.url_normal.proofs.Parsed.put.Goals as goal
 
 pub put_lower-host_end-requires : goal.put_lower-host_end-requires
 put_lower-host_end-requires c =
     let s = c.put_bytes-scheme_end in
     let x = c.args in
-    let h = host-fits (page_in x.s.now x.u) x.out.now c.requires s.new.out s.result s.ensures.ends s.ensures.writes in
-    omega (arith, h, lower-length (text_at x.s.now x.u.host), ap length c.text_at.ensures)
+    let h = host-fits (page_in x.self.text.now x.self.url) x.out.now c.requires s.new.out s.result s.ensures.ends s.ensures.writes in
+    omega (arith, h, lower-length (text_at x.self.text.now x.self.url.host), ap length c.text_at.ensures)
 
 pub put_port-port_end-requires : goal.put_port-port_end-requires
 put_port-port_end-requires c =
@@ -23,7 +23,7 @@ put_port-port_end-requires c =
     let s = c.put_bytes-scheme_end in
     let x = c.args in
     let e = c.text_at.ensures in
-    port-fits (page_in x.s.now x.u) x.out.now c.requires s.new.out s.result s.ensures.ends s.ensures.writes
+    port-fits (page_in x.self.text.now x.self.url) x.out.now c.requires s.new.out s.result s.ensures.ends s.ensures.writes
     h.new.out h.result (h.ensures.ends ∙ ap (λ t. behind s.new.out s.result (lower_all t)) e)
     (h.ensures.writes ∙ ap (λ t. placed s.new.out s.result (lower_all t)) e)
 
@@ -35,7 +35,7 @@ put_query-requires c =
     let s = c.put_bytes-scheme_end in
     let x = c.args in
     let e = c.text_at.ensures in
-    query-fits (page_in x.s.now x.u) x.out.now c.requires s.new.out s.result s.ensures.ends s.ensures.writes
+    query-fits (page_in x.self.text.now x.self.url) x.out.now c.requires s.new.out s.result s.ensures.ends s.ensures.writes
     h.new.out h.result (h.ensures.ends ∙ ap (λ t. behind s.new.out s.result (lower_all t)) e)
     (h.ensures.writes ∙ ap (λ t. placed s.new.out s.result (lower_all t)) e)
     n.new.out n.result n.ensures.ends n.ensures.writes t.new.out t.result (t.ensures.ends ∙ ap (λ z. behind n.new.out n.result (resolved z)) c.path_at.ensures)
@@ -49,7 +49,7 @@ returns c =
     let s = c.put_bytes-scheme_end in
     let x = c.args in
     let e = c.text_at.ensures in
-    let r = normal-put (page_in x.s.now x.u) x.out.now c.requires s.new.out s.result s.ensures.ends s.ensures.writes
+    let r = normal-put (page_in x.self.text.now x.self.url) x.out.now c.requires s.new.out s.result s.ensures.ends s.ensures.writes
     h.new.out h.result (h.ensures.ends ∙ ap (λ t. behind s.new.out s.result (lower_all t)) e)
     (h.ensures.writes ∙ ap (λ t. placed s.new.out s.result (lower_all t)) e)
     n.new.out n.result n.ensures.ends n.ensures.writes t.new.out t.result (t.ensures.ends ∙ ap (λ z. behind n.new.out n.result (resolved z)) c.path_at.ensures)
