@@ -1,7 +1,7 @@
 // Document 01's bench program: lines of hexadecimal, one frame a line, each decoded as a chunked body.
 #![tactic(auto)]
 
-ghost use Rattle.std.specs.Prelude.{◌≡◌, ◌+◌, ◌*◌, ◌≤◌, length, take};
+ghost use Rattle.std.specs.Prelude.{◌≡◌, ◌+◌, ◌*◌, ◌≤◌, IfSome, length, take};
 ghost use Rattle.text.specs.Placing.{placed};
 ghost use Rattle.report.specs.Saying.{said};
 ghost use Rattle.report.specs.Calls.{piece_said, piece_held, last_said, Foremost};
@@ -51,16 +51,22 @@ fn main(rt: HostRuntime) {
 fn run(rt: &(impl Input + Print + Eprint), piece: &mut [u8], buffers: &mut Buffers)
     requires { 16 * length piece.old + 16 ≤ length buffers.old.out }
 {
-    let held = read_all(rt, piece, buffers);
-    let used = buffers.put_last(held);
-    written(rt, &buffers.out[..used]);
+    if let Some(held) = read_all(rt, piece, buffers) {
+        let used = buffers.put_last(held);
+        written(rt, &buffers.out[..used]);
+    }
 }
 
-// Answers the lines that end with LF, and gives how many bytes are held of one behind them; 0 once a write failed, so that nothing more
-// is written. A proved loop has to end, and nothing says that an input does, so that the reads are counted.
-fn read_all(rt: &(impl Input + Print + Eprint), piece: &mut [u8], buffers: &mut Buffers) -> usize
+// Answers the lines that end with LF, and gives how many bytes are held of one behind them; None once a write failed: nothing more is
+// written. A proved loop has to end, and nothing says that an input does, so that the reads are counted.
+fn read_all(
+    rt: &(impl Input + Print + Eprint),
+    piece: &mut [u8],
+    buffers: &mut Buffers,
+) -> Option<usize>
     requires { 16 * length piece.old + 16 ≤ length buffers.old.out }
-    ensures { (result ≤ length buffers.new.line) × (length buffers.new.out ≡ length buffers.old.out) }
+    ensures holds { IfSome result (λ held. held ≤ length buffers.new.line) }
+    ensures keeps { length buffers.new.out ≡ length buffers.old.out }
 {
     let mut input = rt.reader();
     let mut held = 0;
@@ -73,16 +79,16 @@ fn read_all(rt: &(impl Input + Print + Eprint), piece: &mut [u8], buffers: &mut 
             }
         };
         if count == 0 {
-            return held;
+            return Some(held);
         }
         let progress = buffers.put_piece(&piece[..count], held);
         let used = progress.used;
         if !written(rt, &buffers.out[..used]) {
-            return 0;
+            return None;
         }
         held = progress.held;
     }
-    held
+    Some(held)
 }
 
 // Says what failed on standard error. Nothing can be done where that fails too.

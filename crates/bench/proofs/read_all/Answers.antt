@@ -17,4 +17,4 @@ reads-preserved g c =
 
 pub returns-then-not-written : goal.returns-then-not-written
 returns-then-not-written g c =
-    (omega arith, omega (arith, ap length c.put_piece-progress.ensures.keeps ∙ placed-length _ _ _, c.reads.invariant.1))
+    record { holds = tt; keeps = omega (arith, ap length c.put_piece-progress.ensures.keeps ∙ placed-length _ _ _, c.reads.invariant.1) }

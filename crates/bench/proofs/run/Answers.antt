@@ -8,4 +8,4 @@ use Rattle.bench.proofs.run.Goals as goal
 pub shared_ref_as_front-written : goal.shared_ref_as_front-written
 shared_ref_as_front-written g c =
     let p = c.put_last-used.ensures in
-    omega (arith, p.says.within, ap length p.keeps ∙ placed-length _ _ _, c.read_all-held.ensures.1)
+    omega (arith, p.says.within, ap length p.keeps ∙ placed-length _ _ _, c.read_all.ensures.keeps)
