@@ -41,7 +41,8 @@ pub fn normalize(s: &[u8], out: &mut [u8]) -> Result<usize, Refusal>
 impl<'a> Parsed<'a> {
     // Writes the normal form.
     fn write(self, out: &mut [u8]) -> Result<usize, Refusal>
-        ensures answers { verdict result ≡ answer_in_room (within_limit (normal (page_in self.entry.text.now self.entry.url))) (length out.old) }
+        ensures answers { verdict result
+            ≡ answer_in_room (within_limit (normal (page_in self.entry.text.now self.entry.url))) (length out.old) }
         ensures writes { out.new ≡ output_after (within_limit (normal (page_in self.entry.text.now self.entry.url))) out.old }
     {
         let len = self.len_or_bound(out.len());
