@@ -3,7 +3,8 @@
 
 ghost use Rattle.std.specs.Prelude.{◌≡◌, ◌++◌, ◌≤◌, not, length, drop};
 ghost use Rattle.octets.specs.Reading.{verdict};
-ghost use Rattle.content_range_writer.specs.Writing.{InRange, out_of_range, content_range_text, content_range_writing, content_range_output};
+ghost use Rattle.content_range_writer.specs.Writing.{InRange, out_of_range, content_range_text};
+ghost use Rattle.content_range_writer.specs.Writing.{content_range_writing, content_range_output};
 
 use numerals::Base;
 use octets::{LENGTH_LIMIT, Refusal};

@@ -1,5 +1,6 @@
 -- For the contracts of the reader's helpers. The present year is y.
-use Rattle.std.specs.Prelude.{ℕ, zero, suc, ◌+◌, ◌≤◌, ◌<◌, ◌≡◌, cond, List, [], ◌∷◌, ◌++◌, T, ltb, eqb, length, drop, Option, Some, None, Result, Ok, Err}
+use Rattle.std.specs.Prelude.{ℕ, zero, suc, ◌+◌, ◌≤◌, ◌<◌, ◌≡◌, cond, List, [], ◌∷◌, ◌++◌, T, ltb, eqb, length, drop}
+use Rattle.std.specs.Prelude.{Option, Some, None, Result, Ok, Err}
 use Rattle.grammar.specs.Grammar.{Part, Grammar, lit, bytes?}
 use Rattle.grammar.specs.Reading.{Verdict, refused}
 use Rattle.grammar.specs.Refusals.{MALFORMED}
