@@ -11,7 +11,9 @@
 #![tactic(auto)]
 
 ghost use Rattle.std.specs.Prelude.{◌≡◌};
+ghost use Rattle.grammar.specs.Reading.{refused};
 ghost use Rattle.grammar.specs.Comparing.{refused_at};
+ghost use Rattle.framing.specs.Answer as Framed;
 ghost use Rattle.octets.specs.Comparing.{comparison};
 ghost use Rattle.octets.specs.Reading.{number_of, place_of, verdict};
 ghost use Rattle.chunked.specs.Verdict.{verdict as framed};
@@ -85,11 +87,49 @@ impl From<Result<bool, PairRefusal>> for QzSame {
 fn one_refused(which: u8, r: Refusal) -> QzSame
     ensures { result ≡ same_fields (refused_at which (number_of r) (place_of r)) }
 {
-    QzSame {
-        number: r.number(),
-        place: r.place(),
-        which,
-        ..QzSame::default()
+    QzSame::refused(which, r.number(), r.place())
+}
+
+// Each of these three takes whatever number and place a refusal may have.
+
+impl QzSame {
+    // An input was refused.
+    pub fn refused(which: u8, number: u8, place: usize) -> QzSame
+        ensures { result ≡ same_fields (refused_at which number place) }
+    {
+        QzSame {
+            number,
+            place,
+            which,
+            ..QzSame::default()
+        }
+    }
+}
+
+impl QzWritten {
+    // Nothing was written.
+    pub fn refused(number: u8, place: usize) -> QzWritten
+        ensures { result ≡ written_fields (refused number place) }
+    {
+        QzWritten {
+            number,
+            place,
+            ..QzWritten::default()
+        }
+    }
+}
+
+impl QzBody {
+    // The body was refused.
+    pub fn refused(number: u8, place: usize) -> QzBody
+        ensures { result ≡ body_fields (Framed.refused number place) }
+    {
+        QzBody {
+            state: REFUSED,
+            number,
+            place,
+            ..QzBody::default()
+        }
     }
 }
 
@@ -103,11 +143,7 @@ impl From<Result<usize, Refusal>> for QzWritten {
                 length: n,
                 ..QzWritten::default()
             },
-            Err(r) => QzWritten {
-                number: r.number(),
-                place: r.place(),
-                ..QzWritten::default()
-            },
+            Err(r) => QzWritten::refused(r.number(), r.place()),
         }
     }
 }
@@ -130,12 +166,7 @@ impl From<Answer> for QzBody {
                 state: MORE,
                 ..QzBody::default()
             },
-            Answer::Refused(r) => QzBody {
-                state: REFUSED,
-                number: r.number(),
-                place: r.place(),
-                ..QzBody::default()
-            },
+            Answer::Refused(r) => QzBody::refused(r.number(), r.place()),
         }
     }
 }

@@ -2,6 +2,7 @@
 #![tactic(auto)]
 
 ghost use Rattle.std.specs.Prelude.{◌≡◌};
+ghost use Rattle.framing.specs.Answer.{refused};
 ghost use Rattle.text.specs.Placing.{placed, behind};
 ghost use Rattle.chunked.specs.Verdict.{verdict};
 ghost use Rattle.report.specs.Saying.{numbers, said_answer};
@@ -18,8 +19,16 @@ pub fn put_answer(answer: Answer, out: &mut [u8], at: usize) -> usize
     match answer {
         Answer::Whole(body) => put_two(b"C ", body.taken as u64, body.length as u64, out, at),
         Answer::More => text::put_bytes(b"M\n", out, at),
-        Answer::Refused(why) => put_two(b"R ", why.number() as u64, why.place() as u64, out, at),
+        Answer::Refused(why) => put_refusal(why.number(), why.place(), out, at),
     }
+}
+
+// The same of a refusal with whatever number and place.
+pub fn put_refusal(number: u8, place: usize, out: &mut [u8], at: usize) -> usize
+    ensures ends { result ≡ behind out.old at (said_answer (refused number place)) }
+    ensures says { out.new ≡ placed out.old at (said_answer (refused number place)) }
+{
+    put_two(b"R ", number as u64, place as u64, out, at)
 }
 
 // Two numbers, a blank between them, behind some bytes: all of it, or nothing.

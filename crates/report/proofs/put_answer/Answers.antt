@@ -3,8 +3,9 @@ use mathlib.Core.Path.{◌≡◌, sym, ap, ap₂, ◌∙◌}
 use Rattle.grammar.specs.Text.{bytes}
 use Rattle.framing.specs.Answer.{whole, more, refused}
 use Rattle.chunked.specs.Verdict.{verdict}
-use Rattle.report.specs.Saying.{numbers}
-use Rattle.report.proofs.Says.{shows, said-whole, said_more, said-refused}
+use Rattle.text.specs.Placing.{placed, behind}
+use Rattle.report.specs.Saying.{numbers, said_answer}
+use Rattle.report.proofs.Says.{shows, said-whole, said_more}
 use Rattle.report.proofs.put_answer.Goals as goal
 
 pub returns-in-Whole : goal.returns-in-Whole
@@ -26,11 +27,9 @@ returns-in-More c =
 
 pub returns-in-Refused : goal.returns-in-Refused
 returns-in-Refused c =
-    let number = c.number.result in
-    let place = c.place.result in
-    let is : verdict c.args.answer ≡ refused number place
-    = ap verdict c.in-Refused.is ∙ ap₂ refused (sym c.number.ensures) (sym c.place.ensures) in
-    let r = shows c.args.answer (refused number place) is c.args.out.now c.args.at (numbers (bytes "R ") number place)
-    c.put_two-in-Refused.new.out c.put_two-in-Refused.result (said-refused number place)
-    (c.put_two-in-Refused.ensures.ends, c.put_two-in-Refused.ensures.says) in
-    record { ends = r.0; says = r.1 }
+    let is : refused c.number.result c.place.result ≡ verdict c.args.answer
+    = ap₂ refused c.number.ensures c.place.ensures ∙ sym (ap verdict c.in-Refused.is) in
+    record {
+      ends = c.put_refusal.ensures.ends ∙ ap (λ v. behind c.args.out.now c.args.at (said_answer v)) is;
+      says = c.put_refusal.ensures.says ∙ ap (λ v. placed c.args.out.now c.args.at (said_answer v)) is;
+    }
