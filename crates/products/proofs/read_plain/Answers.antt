@@ -1,23 +1,22 @@
 -- `products::read_plain` meets its contract: a byte of text, or a pair.
 use native.Mathlib.Omega.{arith}
 use mathlib.Core.Path.{sym, ◌∙◌}
-use lib.ListN.{get_or}
-use Rattle.products.proofs.Comments.{comment-text-bits, is-text, is-other, is-pair, is_no_pair, is-half-pair}
+use Rattle.products.proofs.Comments.{is-text, is-other, is-pair, is_no_pair, is-half-pair}
 use Rattle.products.proofs.read_plain.Goals as goal
 use Rattle.products.proofs.read_plain.Goals.{then-s-at-via-then-s-at, then-s-at-via-else-s-at+then-not-is_escaped}
 
-pub returns-then-in_class : goal.returns-then-in_class
-returns-then-in_class c =
+pub returns-then-is_comment_text : goal.returns-then-is_comment_text
+returns-then-is_comment_text c =
     let s = c.args.s.now in
     let i = c.args.at in
-    let t = sym (comment-text-bits (get_or s i 0) (omega (arith, c.type_inv.s i))) ∙ sym c.in_class.ensures ∙ c.if-in_class.true in
+    let t = sym c.is_comment_text.ensures ∙ c.if-is_comment_text.true in
     record { forward = omega arith; inside = omega (arith, c.requires.at); reads = λ n a p. is-text s n a p i c.requires.at t }
 
 pub returns-then-s-at-ne92 : goal.returns-then-s-at-ne92
 returns-then-s-at-ne92 c a n p =
     let s = c.args.s.now in
     let i = c.args.at in
-    let t = sym (comment-text-bits (get_or s i 0) (omega (arith, c.type_inv.s i))) ∙ sym c.in_class.ensures ∙ c.if-in_class.false in
+    let t = sym c.is_comment_text.ensures ∙ c.if-is_comment_text.false in
     is-other s n a p i c.requires t c.if-s-at-ne92.true
 
 pub returns-then-s-at : goal.returns-then-s-at
