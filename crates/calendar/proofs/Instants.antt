@@ -1,8 +1,8 @@
 -- What an instant is of a date, and a date of an instant, as the code finds them.
 use Prim.Native.Nat.{ℕ, ◌+◌, ◌*◌, ◌/◌, ◌%◌, ◌<◌}
 use native.Mathlib.Omega.{arith}
-use mathlib.Core.Path.{◌≡◌, sym, ap, ap₂, ◌∙◌}
-use mathlib.Core.Bool.{Bool, true, false, cond}
+use mathlib.Core.Path.{◌≡◌, refl, sym, ap, ap₂, ◌∙◌}
+use mathlib.Core.Bool.{Bool, true, false, cond, ◌&&◌}
 use Rattle.std.specs.Prelude.{Some, None}
 use lib.IntN.{ℤ}
 use Rattle.calendar.specs.declared.Fields.{Fields}
@@ -11,6 +11,20 @@ use Rattle.calendar.specs.Instants.{since_epoch, seconds_of, located, told, in_r
 use Rattle.calendar.proofs.Dates.{time-is}
 
 module _ (f : Fields) where
+  -- a date that does not exist has no instant
+  pub nowhere_date : (t : Bool) → t ≡ date? f.year f.month f.day → t ≡ false → None ≡ located f
+  unfolding located
+  nowhere_date t e n = rw (sym e ∙ n)
+
+  and_no : (a b : Bool) → b ≡ false → a && b ≡ false
+  and_no true b e = e
+  and_no false b e = refl
+
+  -- nor has a time of day that does not exist
+  pub nowhere_time : (t : Bool) → t ≡ time? f.hour f.minute f.second → t ≡ false → None ≡ located f
+  unfolding located
+  nowhere_time t e n = rw (and_no (date? f.year f.month f.day) (time? f.hour f.minute f.second) (sym e ∙ n))
+
   pub second_fits : time? f.hour f.minute f.second ≡ true → (f.hour * 3600 + f.minute * 60 + f.second < 86400) × (f.hour * 3600 < 86400) × (f.minute * 60 < 3600)
   second_fits e =
       let v = time-is f.hour f.minute f.second e in

@@ -20,6 +20,14 @@ character-first a [] h = refl
 character-first a (x ∷ []) h = refl
 character-first a (x ∷ y ∷ t) h = rw (ne_eqb a 37 h)
 
+-- a byte stays where the two behind it make no escape that is not needed
+pub needed_first : (a x y : ℕ) (t : List ℕ) → unneeded? x y ≡ false → resolved (a ∷ x ∷ y ∷ t) ≡ a ∷ resolved (x ∷ y ∷ t)
+needed_first a x y t h = go (eqb a 37) (unneeded? x y) h
+  where
+    go : (u v : Bool) → v ≡ false → cond (u && v) (escaped_byte x y ∷ resolved t) (a ∷ resolved (x ∷ y ∷ t)) ≡ a ∷ resolved (x ∷ y ∷ t)
+    go true v f = rw f
+    go false v f = refl
+
 unneeded_first : (a x y : ℕ) (t : List ℕ) → a ≡ 37 → unneeded? x y ≡ true → resolved (a ∷ x ∷ y ∷ t) ≡ escaped_byte x y ∷ resolved t
 unneeded_first a x y t e h = go (eqb a 37) (unneeded? x y) (eq-eqb a 37 e) h
   where
@@ -79,10 +87,27 @@ no_percent (b ∷ s) e = go (eqb b 37) refl e (no_percent s)
     go true f g h = absurd (true≢false g)
     go false f g h = character-first b s (eqb-false b 37 f) ∙ ap (λ (l : List ℕ). b ∷ l) (h g)
 
--- ## As it is put, a byte at a time
+-- ## At a place
 
 cons : (s : List ℕ) (j : ℕ) → j < length s → drop j s ≡ get_or s j 0 ∷ drop (j + 1) s
 cons s j h = drop-cons s j 0 h ∙ ap (λ (n : ℕ). get_or s j 0 ∷ drop n s) (sym (add-one j))
+
+-- a `%` that is looked for a byte at a time: it stands here, or it was found or stands behind
+module _ (s : List ℕ) (i : ℕ) (found : Bool) (at : i < length s) (inv : (found || percent? (drop i s)) ≡ percent? s) where
+  split : (found || (eqb (get_or s i 0) 37 || percent? (drop (i + 1) s))) ≡ percent? s
+  split = ap (λ (l : List ℕ). found || percent? l) (sym (cons s i at)) ∙ inv
+
+  pub percent_here : get_or s i 0 ≡ 37 → true ≡ percent? s
+  percent_here e = go found (eqb (get_or s i 0) 37) (eq-eqb (get_or s i 0) 37 e) split
+    where
+      go : (x y : Bool) → y ≡ true → (x || (y || percent? (drop (i + 1) s))) ≡ percent? s → true ≡ percent? s
+      go true y f g = g
+      go false y f g = sym (rw f refl) ∙ g
+
+  pub percent_not-here : (get_or s i 0 ≡ 37 → ⊥) → (found || percent? (drop (i + 1) s)) ≡ percent? s
+  percent_not-here h = ap (λ (t : Bool). found || (t || percent? (drop (i + 1) s))) (sym (ne_eqb (get_or s i 0) 37 h)) ∙ split
+
+-- ## As it is put, a byte at a time
 
 -- what is left of a text begins with a byte
 pub record First (t rest : List ℕ) (k b : ℕ) : Type 0 where

@@ -5,8 +5,7 @@ use Rattle.std.proofs.lemmas.Grind.{common_steps}
 use mathlib.Core.Path.{sym, ◌∙◌}
 use mir.Syntax.{w64}
 use mir.Facts.{to_z-of_z}
-use Rattle.calendar.specs.Instants.{located}
-use Rattle.calendar.proofs.Instants.{located-at, second_fits}
+use Rattle.calendar.proofs.Instants.{nowhere_date, nowhere_time, located-at, second_fits}
 use Rattle.calendar.proofs.locate.Goals as goal
 use Rattle.calendar.proofs.locate.Goals.{Else-not-time_exists}
 
@@ -15,8 +14,7 @@ clock : (c : Else-not-time_exists) → (c.args.f.hour * 3600 + c.args.f.minute *
 clock c = second_fits c.args.f (sym c.if-not-time_exists.ensures)
 
 pub returns-then-not-date_exists : goal.returns-then-not-date_exists
-unfolding located
-returns-then-not-date_exists c = grind (arith, common_steps)
+returns-then-not-date_exists c = grind (arith, common_steps, nowhere_date c.args.f, nowhere_time c.args.f)
 
 pub overflow_mul-second : goal.overflow_mul-second
 overflow_mul-second c = omega (arith, clock ((goal.at.overflow_mul-second c).Else-not-time_exists))
